@@ -1,0 +1,158 @@
+-- Every token is nonempty and within the text, and the walk covers the text.
+use mathlib.Core.Bool.{Bool, true, false, cond, true≢false, _&&_ as and}
+use mathlib.Core.Path.{_≡_, refl, sym, ap, _∙_}
+use mathlib.Core.List.{List, [], _∷_, _++_}
+use mathlib.Core.Option.{Option, none, some, Option·getD}
+use Prim.Native.Nat.{ℕ, zero, suc, _+_, _≤_, _<_}
+use native.Mathlib.Nat.{zero-add, add-assoc}
+use native.Mathlib.Omega.{arith}
+use Prim.Native.Char.{code}
+use Prim.Native.String.{String, [] as []ˢ, _∷_ as _∷ˢ_, count, count·cons}
+use lib.ListN.{drop, take, length, length-drop, take-append-drop}
+use Rattle.classes.specs.Classes.{classOf}
+use Rattle.classes.specs.declared.Class.{Class}
+use Rattle.classes.specs.declared.Class.the-variants.{Upper, Lower, Caseless, Mark, Number, Whitespace, Other}
+use Rattle.pattern.specs.Regex.{holds, run, spells, sameLetter}
+use Rattle.pattern.proofs.Runs.{lastStep, lastIn, after}
+use Rattle.pattern.specs.declared.Options.{Options}
+use Rattle.pattern.specs.Pattern.{suffixes, token}
+use Rattle.pattern.proofs.Trial.{opens, run-step}
+use Rattle.pattern.proofs.Step.{upperish, lowerish, number, white, punct, newline, isULM, isLLM, isWhite, isPunct, is, tail, groupOf, isWordy, wordy, caseEnd, firstFit, suffixEnd, wordEnd, punctEnd, isEnd, keep, spaceEnd, stepBy, step}
+use Rattle.pattern.proofs.ClosedForm.{token-is-step}
+
+-- from 1 to l
+abbrev pub Good : ℕ → ℕ → Type 0
+Good l n = (1 ≤ n) × (n ≤ l)
+
+abbrev Within : ℕ → Option ℕ → Type 0
+Within l none = Unit {0}
+Within l (some n) = Good l n
+
+pub run-le : (p : ℕ → Bool) (cs : List ℕ) → run p cs ≤ length cs
+unfolding run
+run-le p [] = omega arith
+run-le p (c ∷ cs) = rw (run-step p c cs) (by (p c) (run p cs) (run-le p cs))
+  where
+    by : (b : Bool) (r : ℕ) → r ≤ length cs → cond b (suc r) 0 ≤ suc (length cs)
+    by true r h = omega arith
+    by false r h = omega arith
+
+last-within : (p q : ℕ → Bool) (cs : List ℕ) → Within (length cs) (lastIn p q cs)
+unfolding lastIn
+last-within p q [] = tt
+last-within p q (c ∷ cs) = by (p c) (q c) (lastIn p q cs) (run q cs) (last-within p q cs) (run-le q cs)
+  where
+    by : (b d : Bool) (m : Option ℕ) (r : ℕ) → Within (length cs) m → r ≤ length cs
+        → Within (suc (length cs)) (lastStep b d m r)
+    by true d (some n) r w h = omega arith
+    by true true none r w h = omega arith
+    by true false none r w h = tt
+    by false true m r w h = omega arith
+    by false false m r w h = tt
+
+after-good : (f : List ℕ → ℕ) (cs : List ℕ) (n : ℕ) → ((ds : List ℕ) → f ds ≤ length ds) → Good (length cs) n → Good (length cs) (after f cs n)
+after-good f cs n h g = omega (arith, h (drop n cs), length-drop n cs)
+
+case-good : (c : ℕ) (cs : List ℕ) → wordy c ≡ true → Good (suc (length cs)) (caseEnd (c ∷ cs))
+unfolding caseEnd wordy holds lastIn
+case-good c cs e = rw (run-step upperish c cs) (by (classOf c) (lastIn upperish lowerish cs) (run lowerish cs) (run upperish cs)
+    (last-within upperish lowerish cs) (run-le lowerish cs) (run-le upperish cs) e)
+  where
+    by : (k : Class) (m : Option ℕ) (r u : ℕ) → Within (length cs) m → r ≤ length cs → u ≤ length cs → isWordy k ≡ true
+        → Good (suc (length cs)) (Option·getD (lastStep (isULM k) (isLLM k) m r) (cond (isULM k) (suc u) 0))
+    by Upper none r u w h g e = omega arith
+    by Upper (some n) r u w h g e = omega arith
+    by Lower m r u w h g e = omega arith
+    by Caseless none r u w h g e = omega arith
+    by Caseless (some n) r u w h g e = omega arith
+    by Mark none r u w h g e = omega arith
+    by Mark (some n) r u w h g e = omega arith
+    by Number m r u w h g e = absurd (true≢false (sym e))
+    by Whitespace m r u w h g e = absurd (true≢false (sym e))
+    by Other m r u w h g e = absurd (true≢false (sym e))
+
+spells-le : (w : String) (cs : List ℕ) → spells w cs ≡ true → count w ≤ length cs
+spells-le []ˢ cs e = omega arith
+spells-le (a ∷ˢ w) [] e = absurd (true≢false (sym e))
+spells-le (a ∷ˢ w) (c ∷ cs) e = rw (count·cons a w) (by (sameLetter (code a) c) (spells w cs) (spells-le w cs) e)
+  where
+    by : (b d : Bool) → (d ≡ true → count w ≤ length cs) → and b d ≡ true → suc (count w) ≤ suc (length cs)
+    by true true h e = omega (arith, h refl)
+    by true false h e = absurd (true≢false (sym e))
+    by false d h e = absurd (true≢false (sym e))
+
+first-le : (ws : List String) (cs : List ℕ) → firstFit ws cs ≤ length cs
+first-le [] cs = omega arith
+first-le (w ∷ ws) cs = by (spells w cs) (spells-le w cs) (first-le ws cs)
+  where
+    by : (b : Bool) → (b ≡ true → count w ≤ length cs) → firstFit ws cs ≤ length cs → cond b (count w) (firstFit ws cs) ≤ length cs
+    by true h g = h refl
+    by false h g = g
+
+suffix-le : (o : Options) (cs : List ℕ) → suffixEnd o cs ≤ length cs
+unfolding suffixEnd
+suffix-le o cs = by (o .contractions) (first-le suffixes cs)
+  where
+    by : (b : Bool) → firstFit suffixes cs ≤ length cs → cond b (firstFit suffixes cs) 0 ≤ length cs
+    by true h = h
+    by false h = omega arith
+
+word-good : (o : Options) (cs : List ℕ) → opens wordy cs ≡ true → Good (length cs) (wordEnd o cs)
+unfolding opens wordEnd
+word-good o [] e = absurd (true≢false (sym e))
+word-good o (c ∷ cs) e = after-good (suffixEnd o) (c ∷ cs) (caseEnd (c ∷ cs)) (suffix-le o) (case-good c cs e)
+
+punct-good : (o : Options) (cs : List ℕ) → opens punct cs ≡ true → Good (length cs) (punctEnd o cs)
+unfolding opens punctEnd
+punct-good o [] e = absurd (true≢false (sym e))
+punct-good o (c ∷ cs) e = after-good (run (tail (o .slash))) (c ∷ cs) (run punct (c ∷ cs)) (run-le (tail (o .slash)))
+    (rw (run-step punct c cs, e) (omega (arith, run-le punct cs)))
+
+space-good : (c : ℕ) (cs : List ℕ) → white c ≡ true → Good (suc (length cs)) (spaceEnd (c ∷ cs))
+unfolding spaceEnd
+space-good c cs e = rw (run-step white c cs, e) (by (lastIn white newline (c ∷ cs)) (isEnd (drop (run white cs) cs)) (run white cs) (last-within white newline (c ∷ cs)) (run-le white cs))
+  where
+    by : (m : Option ℕ) (e : Bool) (r : ℕ) → Within (suc (length cs)) m → r ≤ length cs → Good (suc (length cs)) (Option·getD m (keep e (suc r)))
+    by (some n) e r w h = w
+    by none true r w h = omega arith
+    by none false zero w h = omega arith
+    by none false (suc n) w h = omega arith
+
+group-good : (d n : ℕ) → Good (suc n) (groupOf d (suc n))
+unfolding groupOf
+group-good zero n = omega arith
+group-good (suc zero) n = omega arith
+group-good (suc (suc d)) n = omega arith
+
+pub and-right : (a b : Bool) → and a b ≡ true → b ≡ true
+and-right true b h = h
+and-right false b h = absurd (true≢false (sym h))
+
+step-good : (o : Options) (c : ℕ) (cs : List ℕ) → Good (suc (length cs)) (step o (c ∷ cs))
+unfolding step stepBy opens wordy holds
+step-good o c cs = go (classOf c) refl
+  where
+    go : (k : Class) → classOf c ≡ k → Good (suc (length cs)) (stepBy o k c cs)
+    go Upper e = word-good o (c ∷ cs) (ap isWordy e)
+    go Lower e = word-good o (c ∷ cs) (ap isWordy e)
+    go Caseless e = word-good o (c ∷ cs) (ap isWordy e)
+    go Mark e = word-good o (c ∷ cs) (ap isWordy e)
+    go Number e = omega (arith, group-good (o .digits) (run number cs), run-le number cs)
+    go Whitespace e = by (newline c) (opens wordy cs) (and (is 32 c) (opens punct cs)) (word-good o cs) (λ h. punct-good o cs (and-right (is 32 c) _ h)) (space-good c cs (ap isWhite e))
+      where
+        by : (b ow s : Bool) → (ow ≡ true → Good (length cs) (wordEnd o cs)) → (s ≡ true → Good (length cs) (punctEnd o cs)) → Good (suc (length cs)) (spaceEnd (c ∷ cs))
+            → Good (suc (length cs)) (cond b (spaceEnd (c ∷ cs)) (cond ow (suc (wordEnd o cs)) (cond s (suc (punctEnd o cs)) (spaceEnd (c ∷ cs)))))
+        by true ow s w p z = z
+        by false true s w p z = omega (arith, w refl)
+        by false false true w p z = omega (arith, p refl)
+        by false false false w p z = z
+    go Other e = by (opens wordy cs) (word-good o cs) (punct-good o (c ∷ cs) (ap isPunct e))
+      where
+        by : (ow : Bool) → (ow ≡ true → Good (length cs) (wordEnd o cs)) → Good (suc (length cs)) (punctEnd o (c ∷ cs))
+            → Good (suc (length cs)) (cond ow (suc (wordEnd o cs)) (punctEnd o (c ∷ cs)))
+        by true w p = omega (arith, w refl)
+        by false w p = p
+
+pub token-good : (o : Options) (c : ℕ) (cs : List ℕ) → Good (suc (length cs)) (token o (c ∷ cs))
+token-good o c cs = rw (token-is-step o (c ∷ cs)) (step-good o c cs)
+

@@ -1,0 +1,91 @@
+-- How a pattern is written: what is written for the o200k setting is the published pattern, and for others the same with its option's part replaced.
+use mathlib.Core.Bool.{Bool, true, false, cond}
+use mathlib.Core.Path.{_≡_, refl}
+use mathlib.Core.List.{List, [], _∷_, map}
+use Prim.Native.Nat.{ℕ, zero, suc}
+use Prim.Native.Char.{code}
+use Prim.Native.String.{String, [] as []ˢ, _∷_ as _∷ˢ_, _++_}
+use lib.Dec.{eqb}
+use Rattle.classes.specs.Classes.{classOf}
+use Rattle.classes.specs.declared.Class.the-variants.{Upper, Lower, Caseless, Mark, Number, Whitespace, Other}
+use Rattle.pattern.specs.Regex.{Item, char, kind, letter, nonWhite, Set, just, among, except, Piece, one, opt, many, some, upToThree, notAhead, anyCase?, thirds}
+use Rattle.pattern.specs.Pattern.{alternatives, o200k}
+
+abbrev pub showItem : Item → String
+showItem (char a) = cond (eqb (code a) 13) "\\r" (cond (eqb (code a) 10) "\\n" (a ∷ˢ []ˢ))
+showItem (kind Upper) = "\\p{Lu}\\p{Lt}"
+showItem (kind Lower) = "\\p{Ll}"
+showItem (kind Caseless) = "\\p{Lm}\\p{Lo}"
+showItem (kind Mark) = "\\p{M}"
+showItem (kind Number) = "\\p{N}"
+showItem (kind Whitespace) = "\\s"
+showItem (kind Other) = "(no notation)"
+showItem letter = "\\p{L}"
+showItem nonWhite = "\\S"
+
+abbrev pub showAll {ℓ} : {A : Type ℓ} → (A → String) → List A → String
+showAll f [] = ""
+showAll f (x ∷ xs) = f x ++ showAll f xs
+
+-- with a bar between each two
+abbrev pub bars : List String → String
+bars [] = ""
+bars (w ∷ []) = w
+bars (w ∷ v ∷ ws) = w ++ ("|" ++ bars (v ∷ ws))
+
+abbrev pub showSet : Set → String
+showSet (just i) = showItem i
+showSet (among is) = "[" ++ (showAll showItem is ++ "]")
+showSet (except is) = "[^" ++ (showAll showItem is ++ "]")
+
+abbrev pub showPiece : Piece → String
+showPiece (one s) = showSet s
+showPiece (opt s) = showSet s ++ "?"
+showPiece (many s) = showSet s ++ "*"
+showPiece (some s) = showSet s ++ "+"
+showPiece (upToThree s) = showSet s ++ "{1,3}"
+showPiece (notAhead s) = "(?!" ++ (showSet s ++ ")")
+showPiece (anyCase? ws) = "(?i:" ++ (bars ws ++ ")?")
+showPiece (thirds s) = showSet s ++ "(no notation)"
+
+abbrev pub show : List (List Piece) → String
+show rs = bars (map (showAll showPiece) rs)
+
+-- the o200k_base pattern of the public tiktoken sources
+abbrev pub published : String
+published = "[^\\r\\n\\p{L}\\p{N}]?[\\p{Lu}\\p{Lt}\\p{Lm}\\p{Lo}\\p{M}]*[\\p{Ll}\\p{Lm}\\p{Lo}\\p{M}]+(?i:'s|'t|'re|'ve|'m|'ll|'d)?|[^\\r\\n\\p{L}\\p{N}]?[\\p{Lu}\\p{Lt}\\p{Lm}\\p{Lo}\\p{M}]+[\\p{Ll}\\p{Lm}\\p{Lo}\\p{M}]*(?i:'s|'t|'re|'ve|'m|'ll|'d)?|\\p{N}{1,3}| ?[^\\s\\p{L}\\p{N}]+[\\r\\n/]*|\\s*[\\r\\n]+|\\s+(?!\\S)|\\s+"
+
+pub o200k-is-published : show (alternatives o200k) ≡ published
+o200k-is-published = refl
+
+-- the published pattern with three parts open: the suffix (twice), how many digits, the slash
+abbrev pub template : String → String → String → String
+template suffix digits slash =
+    "[^\\r\\n\\p{L}\\p{N}]?[\\p{Lu}\\p{Lt}\\p{Lm}\\p{Lo}\\p{M}]*[\\p{Ll}\\p{Lm}\\p{Lo}\\p{M}]+" ++ (suffix ++
+    ("|[^\\r\\n\\p{L}\\p{N}]?[\\p{Lu}\\p{Lt}\\p{Lm}\\p{Lo}\\p{M}]+[\\p{Ll}\\p{Lm}\\p{Lo}\\p{M}]*" ++ (suffix ++
+    ("|\\p{N}" ++ (digits ++
+    ("| ?[^\\s\\p{L}\\p{N}]+[\\r\\n" ++ (slash ++
+    "]*|\\s*[\\r\\n]+|\\s+(?!\\S)|\\s+")))))))
+
+abbrev pub digitsText : ℕ → String
+digitsText zero = ""
+digitsText (suc zero) = "{1,3}"
+digitsText (suc (suc d)) = "(no notation)"
+
+pub template-is-published : template "(?i:'s|'t|'re|'ve|'m|'ll|'d)?" "{1,3}" "/" ≡ published
+template-is-published = refl
+
+pub others-are-replaced : (c : Bool) (d : ℕ) (s : Bool)
+    → show (alternatives (record { contractions = c; digits = d; slash = s })) ≡ template (cond c "(?i:'s|'t|'re|'ve|'m|'ll|'d)?" "") (digitsText d) (cond s "/" "")
+others-are-replaced true zero true = refl
+others-are-replaced true zero false = refl
+others-are-replaced true (suc zero) true = refl
+others-are-replaced true (suc zero) false = refl
+others-are-replaced true (suc (suc d)) true = refl
+others-are-replaced true (suc (suc d)) false = refl
+others-are-replaced false zero true = refl
+others-are-replaced false zero false = refl
+others-are-replaced false (suc zero) true = refl
+others-are-replaced false (suc zero) false = refl
+others-are-replaced false (suc (suc d)) true = refl
+others-are-replaced false (suc (suc d)) false = refl

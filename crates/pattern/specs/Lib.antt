@@ -1,0 +1,3 @@
+pub mod Regex
+pub mod Pattern
+pub mod Answers

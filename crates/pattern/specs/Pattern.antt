@@ -1,0 +1,72 @@
+-- The pattern of document 01: the seven alternatives, in its order, adapted to the options.
+use mathlib.Core.Bool.{Bool, true, false}
+use mathlib.Core.List.{List, [], _∷_, _++_}
+use Prim.Native.Nat.{ℕ, zero, suc}
+use Prim.Native.String.{String, [] as []ˢ, _∷_ as _∷ˢ_}
+use Rattle.classes.specs.declared.Class.the-variants.{Upper, Lower, Caseless, Mark, Number, Whitespace}
+use Rattle.pattern.specs.declared.Options.{Options}
+use Rattle.pattern.specs.Regex.{Item, char, kind, letter, nonWhite, Set, just, among, except, Piece, one, opt, many, some, upToThree, notAhead, anyCase?, thirds, first}
+
+abbrev pub o200k : Options
+o200k = record { contractions = true; digits = 1; slash = true }
+
+abbrev pub chars : String → List Item
+chars []ˢ = []
+chars (a ∷ˢ s) = char a ∷ chars s
+
+abbrev pub prefix : Set
+prefix = except (chars "\r\n" ++ (letter ∷ kind Number ∷ []))
+
+abbrev pub upperish : Set
+upperish = among (kind Upper ∷ kind Caseless ∷ kind Mark ∷ [])
+
+abbrev pub lowerish : Set
+lowerish = among (kind Lower ∷ kind Caseless ∷ kind Mark ∷ [])
+
+abbrev pub suffixes : List String
+suffixes = "'s" ∷ "'t" ∷ "'re" ∷ "'ve" ∷ "'m" ∷ "'ll" ∷ "'d" ∷ []
+
+abbrev pub suffix : Bool → List Piece
+suffix true = anyCase? suffixes ∷ []
+suffix false = []
+
+abbrev pub number : Set
+number = just (kind Number)
+
+-- digit modes 0, 1 and 2; a mode above 2 is refused before it comes here
+abbrev pub digits : ℕ → Piece
+digits zero = one number
+digits (suc zero) = upToThree number
+digits (suc (suc d)) = thirds number
+
+abbrev pub space : Set
+space = just (char " ")
+
+-- Mark and Other
+abbrev pub punct : Set
+punct = except (kind Whitespace ∷ letter ∷ kind Number ∷ [])
+
+abbrev pub newline : Set
+newline = among (chars "\r\n")
+
+abbrev pub tail : Bool → Set
+tail true = among (chars "\r\n/")
+tail false = newline
+
+abbrev pub white : Set
+white = just (kind Whitespace)
+
+abbrev pub alternatives : Options → List (List Piece)
+alternatives o =
+    (opt prefix ∷ many upperish ∷ some lowerish ∷ suffix (o .contractions)) ∷
+    (opt prefix ∷ some upperish ∷ many lowerish ∷ suffix (o .contractions)) ∷
+    (digits (o .digits) ∷ []) ∷
+    (opt space ∷ some punct ∷ many (tail (o .slash)) ∷ []) ∷
+    (many white ∷ some newline ∷ []) ∷
+    (some white ∷ notAhead (just nonWhite) ∷ []) ∷
+    (some white ∷ []) ∷
+    []
+
+-- how many characters the first token has
+unfoldable pub token : Options → List ℕ → ℕ
+token o cs = first (alternatives o) cs
