@@ -3,5 +3,10 @@ pub mod Runs
 pub mod Step
 pub mod ClosedForm
 pub mod Bounds
+pub mod Accepted
+pub mod Walk
+pub mod Closed
+pub mod Records
+pub mod Alike
 pub mod Published
 pub mod Examples
