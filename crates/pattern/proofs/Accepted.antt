@@ -1,5 +1,5 @@
 -- What the checks say of a call that passes, and that it passes where they hold.
-use Prim.Native.Nat.{ℕ, _≤_, _<_}
+use Prim.Native.Nat.{ℕ, _≤_}
 use mathlib.Core.Bool.{Bool, true, false}
 use mathlib.Core.List.{List}
 use mathlib.Core.Path.{_≡_, refl}
@@ -7,11 +7,11 @@ use native.Mathlib.Omega.{arith}
 use lib.Dec.{ltb}
 use lib.ListN.{length}
 use borrow.Author.Tests.{le-ltb, ltb-false}
-use Rattle.utf8.specs.Utf8.{pick, chars, validLength, Valid, charStart}
+use Rattle.utf8.specs.Utf8.{chars, validLength, Valid, charStart}
 use Rattle.utf8.proofs.Inverse.{valid-room}
-use Rattle.utf8.proofs.Place.{start-le, On, on-start, on-begins}
+use Rattle.utf8.proofs.Place.{start-le, On, on-start}
 use Rattle.pattern.specs.declared.Options.{Options}
-use Rattle.pattern.specs.Answers.{Found, passes, no, limit, row, checks}
+use Rattle.pattern.specs.Answers.{Found, passes, limit, row, checks}
 
 -- the call breaks no row: options, text and start are accepted
 pub record Accepted (o : Options) (s : List ℕ) (at : ℕ) : Type 0 where

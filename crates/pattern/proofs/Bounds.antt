@@ -1,23 +1,22 @@
 -- Every token is nonempty and within the text, and the walk covers the text.
 use mathlib.Core.Bool.{Bool, true, false, cond, true≢false, _&&_ as and}
-use mathlib.Core.Path.{_≡_, refl, sym, ap, _∙_}
-use mathlib.Core.List.{List, [], _∷_, _++_}
+use mathlib.Core.Path.{_≡_, refl, sym, ap}
+use mathlib.Core.List.{List, [], _∷_}
 use mathlib.Core.Option.{Option, none, some, Option·getD}
-use Prim.Native.Nat.{ℕ, zero, suc, _+_, _≤_, _<_}
-use native.Mathlib.Nat.{zero-add, add-assoc}
+use Prim.Native.Nat.{ℕ, zero, suc, _≤_}
 use native.Mathlib.Omega.{arith}
 use Prim.Native.Char.{code}
 use Prim.Native.String.{String, [] as []ˢ, _∷_ as _∷ˢ_, count, count·cons}
-use lib.ListN.{drop, take, length, length-drop, take-append-drop}
+use lib.ListN.{drop, length, length-drop}
 use Rattle.classes.specs.Classes.{classOf}
 use Rattle.classes.specs.declared.Class.{Class}
 use Rattle.classes.specs.declared.Class.the-variants.{Upper, Lower, Caseless, Mark, Number, Whitespace, Other}
-use Rattle.pattern.specs.Regex.{holds, run, spells, sameLetter}
+use Rattle.pattern.specs.Regex.{holds, run, spells, eitherCase}
 use Rattle.pattern.proofs.Runs.{lastStep, lastIn, after}
 use Rattle.pattern.specs.declared.Options.{Options}
-use Rattle.pattern.specs.Pattern.{suffixes, token}
+use Rattle.pattern.specs.Pattern.{token}
 use Rattle.pattern.proofs.Trial.{opens, run-step}
-use Rattle.pattern.proofs.Step.{upperish, lowerish, number, white, punct, newline, isULM, isLLM, isWhite, isPunct, is, tail, groupOf, isWordy, wordy, caseEnd, firstFit, suffixEnd, wordEnd, punctEnd, isEnd, keep, spaceEnd, stepBy, step}
+use Rattle.pattern.proofs.Step.{upperish, lowerish, number, white, punct, newline, isULM, isLLM, isWhite, isPunct, is, tail, groupOf, isWordy, wordy, caseEnd, firstFit, suffixTable, suffixEnd, wordEnd, punctEnd, isEnd, keep, spaceEnd, stepBy, step}
 use Rattle.pattern.proofs.ClosedForm.{token-is-step}
 
 -- from 1 to l
@@ -74,7 +73,7 @@ case-good c cs e = rw (run-step upperish c cs) (by (classOf c) (lastIn upperish 
 spells-le : (w : String) (cs : List ℕ) → spells w cs ≡ true → count w ≤ length cs
 spells-le []ˢ cs e = omega arith
 spells-le (a ∷ˢ w) [] e = absurd (true≢false (sym e))
-spells-le (a ∷ˢ w) (c ∷ cs) e = rw (count·cons a w) (by (sameLetter (code a) c) (spells w cs) (spells-le w cs) e)
+spells-le (a ∷ˢ w) (c ∷ cs) e = rw (count·cons a w) (by (eitherCase (code a) c) (spells w cs) (spells-le w cs) e)
   where
     by : (b d : Bool) → (d ≡ true → count w ≤ length cs) → and b d ≡ true → suc (count w) ≤ suc (length cs)
     by true true h e = omega (arith, h refl)
@@ -91,9 +90,9 @@ first-le (w ∷ ws) cs = by (spells w cs) (spells-le w cs) (first-le ws cs)
 
 suffix-le : (o : Options) (cs : List ℕ) → suffixEnd o cs ≤ length cs
 unfolding suffixEnd
-suffix-le o cs = by (o .contractions) (first-le suffixes cs)
+suffix-le o cs = by (o .contractions) (first-le suffixTable cs)
   where
-    by : (b : Bool) → firstFit suffixes cs ≤ length cs → cond b (firstFit suffixes cs) 0 ≤ length cs
+    by : (b : Bool) → firstFit suffixTable cs ≤ length cs → cond b (firstFit suffixTable cs) 0 ≤ length cs
     by true h = h
     by false h = omega arith
 
@@ -155,4 +154,3 @@ step-good o c cs = go (classOf c) refl
 
 pub token-good : (o : Options) (c : ℕ) (cs : List ℕ) → Good (suc (length cs)) (token o (c ∷ cs))
 token-good o c cs = rw (token-is-step o (c ∷ cs)) (step-good o c cs)
-

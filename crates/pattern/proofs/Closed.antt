@@ -13,12 +13,12 @@ use Rattle.classes.specs.Classes.{classOf}
 use Rattle.classes.specs.declared.Class.{Class}
 use Rattle.classes.specs.declared.Class.the-variants.{Upper, Lower, Caseless, Mark, Number, Whitespace, Other}
 use Rattle.pattern.specs.declared.Options.{Options}
-use Rattle.pattern.specs.Regex.{Set, just, char, holds, run, spells, sameLetter}
-use Rattle.pattern.specs.Pattern.{suffixes, token, newline as newlineSet}
+use Rattle.pattern.specs.Regex.{Set, just, char, holds, run, spells, eitherCase}
+use Rattle.pattern.specs.Pattern.{token, newline as newlineSet}
 use Rattle.pattern.specs.Records.{noneOf, fresh}
 use Rattle.pattern.proofs.Trial.{opens, run-step}
 use Rattle.pattern.proofs.Runs.{lastStep, lastIn, after, last-none}
-use Rattle.pattern.proofs.Step.{upperish, lowerish, number, white, punct, newline, isULM, isLLM, isNumber, isPunct, is, tail, wordy, caseEnd, firstFit, suffixEnd, wordEnd, punctEnd, isEnd, keep, spaceEnd, stepBy, step}
+use Rattle.pattern.proofs.Step.{upperish, lowerish, number, white, punct, newline, isULM, isLLM, isNumber, isPunct, is, tail, wordy, caseEnd, firstFit, suffixTable, suffixEnd, wordEnd, punctEnd, isEnd, keep, spaceEnd, stepBy, step}
 use Rattle.pattern.proofs.ClosedForm.{token-is-step, newline-white, newline-is-white, newline-elim}
 use Rattle.pattern.proofs.Bounds.{and-right}
 
@@ -128,7 +128,7 @@ case-lt {xs} k = by (lastIn upperish lowerish xs) (last-below upperish lowerish 
 -- the same of each letter of the suffixes, by one computed test
 abbrev dodges : String → Bool
 dodges []ˢ = true
-dodges (a ∷ˢ w) = and (not (sameLetter (code a) 10)) (and (not (sameLetter (code a) 13)) (dodges w))
+dodges (a ∷ˢ w) = and (not (eitherCase (code a) 10)) (and (not (eitherCase (code a) 13)) (dodges w))
 
 abbrev allDodge : List String → Bool
 allDodge [] = true
@@ -144,8 +144,8 @@ not-true false h = refl
 
 spells-closed : (w : String) → dodges w ≡ true → (ys : List ℕ) {zs : List ℕ} → Closed zs → spells w (zs ++ ys) ≡ spells w zs
 spells-closed []ˢ d ys k = refl
-spells-closed (a ∷ˢ w) d ys (here {c} h) = rw (newline-elim (λ c. sameLetter (code a) c ≡ false) (not-true (sameLetter (code a) 10) (and-left (not (sameLetter (code a) 10)) _ d)) (not-true (sameLetter (code a) 13) (and-left (not (sameLetter (code a) 13)) _ (and-right (not (sameLetter (code a) 10)) _ d))) c h)
-spells-closed (a ∷ˢ w) d ys (there {c} {cs} k) = rw (spells-closed w (and-right (not (sameLetter (code a) 13)) _ (and-right (not (sameLetter (code a) 10)) _ d)) ys k)
+spells-closed (a ∷ˢ w) d ys (here {c} h) = rw (newline-elim (λ c. eitherCase (code a) c ≡ false) (not-true (eitherCase (code a) 10) (and-left (not (eitherCase (code a) 10)) _ d)) (not-true (eitherCase (code a) 13) (and-left (not (eitherCase (code a) 13)) _ (and-right (not (eitherCase (code a) 10)) _ d))) c h)
+spells-closed (a ∷ˢ w) d ys (there {c} {cs} k) = rw (spells-closed w (and-right (not (eitherCase (code a) 13)) _ (and-right (not (eitherCase (code a) 10)) _ d)) ys k)
 
 words-closed : (ws : List String) → allDodge ws ≡ true → (ys : List ℕ) {zs : List ℕ} → Closed zs → firstFit ws (zs ++ ys) ≡ firstFit ws zs
 words-closed [] d ys k = refl
@@ -153,7 +153,7 @@ words-closed (w ∷ ws) d ys k = rw (spells-closed w (and-left (dodges w) _ d) y
 
 suffix-closed : (o : Options) (ys : List ℕ) {zs : List ℕ} → Closed zs → suffixEnd o (zs ++ ys) ≡ suffixEnd o zs
 unfolding suffixEnd
-suffix-closed o ys k = rw (words-closed suffixes refl ys k)
+suffix-closed o ys k = rw (words-closed suffixTable refl ys k)
 
 word-closed : (o : Options) (ys : List ℕ) {xs : List ℕ} → Closed xs → wordEnd o (xs ++ ys) ≡ wordEnd o xs
 unfolding wordEnd
@@ -282,4 +282,3 @@ step-closed o ys f (there {c} {cs} k) = go (classOf c)
 -- THE RECORD LEMMA
 pub token-closed : (o : Options) (ys : List ℕ) {xs : List ℕ} → fresh o ys ≡ true → Closed xs → token o (xs ++ ys) ≡ token o xs
 token-closed o ys {xs} f k = rw (token-is-step o (xs ++ ys), token-is-step o xs) (step-closed o ys f k)
-

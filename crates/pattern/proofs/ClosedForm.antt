@@ -16,8 +16,8 @@ use Rattle.pattern.specs.Regex.{Piece, opt, many, some as plus, notAhead
 use Rattle.pattern.proofs.Trial.{opens, first-trials, run-step, or-assoc, or-none, stop, orElse, up, orZero, tryEach, three, trialPiece, trial, trialOne, trialMany}
 use Rattle.pattern.proofs.Runs.{lastStep, lastIn, after, mapO, many-total, many-some, last-after}
 use Rattle.pattern.specs.declared.Options.{Options}
-use Rattle.pattern.specs.Pattern.{alternatives, suffixes, suffix, digits, token, space, upperish as upperSet, lowerish as lowerSet, white as whiteSet, punct as punctSet, newline as newlineSet, prefix as prefixSet, tail as tailSet}
-use Rattle.pattern.proofs.Step.{upperish, lowerish, number, white, punct, newline, prefix, tail, is, isPre, isULM, isLLM, isWhite, isWordy, wordy, caseEnd, firstFit, suffixEnd, wordEnd, punctEnd, isEnd, keep, spaceEnd, groupOf, stepBy, step}
+use Rattle.pattern.specs.Pattern.{alternatives, suffix, digits, token, space, upperish as upperSet, lowerish as lowerSet, white as whiteSet, punct as punctSet, newline as newlineSet, prefix as prefixSet, tail as tailSet}
+use Rattle.pattern.proofs.Step.{upperish, lowerish, number, white, punct, newline, prefix, tail, is, isPre, isULM, isLLM, isWhite, isWordy, wordy, caseEnd, firstFit, suffixTable, suffixEnd, wordEnd, punctEnd, isEnd, keep, spaceEnd, groupOf, stepBy, step}
 
 -- the suffix: the first word that stands there
 words-are : (ws : List String) (cs : List ℕ) → orElse (tryEach (wordsHere ws cs) stop cs) (some 0) ≡ some (firstFit ws cs)
@@ -34,8 +34,8 @@ suffix-is : (o : Options) → trial (suffix (o .contractions)) stop ≡ (λ ds. 
 unfolding trial trialPiece suffixEnd
 suffix-is o = fun-ext λ ds. by (o .contractions) ds
   where
-    by : (b : Bool) (ds : List ℕ) → trial (suffix b) stop ds ≡ some (cond b (firstFit suffixes ds) 0)
-    by true ds = words-are suffixes ds
+    by : (b : Bool) (ds : List ℕ) → trial (suffix b) stop ds ≡ some (cond b (firstFit suffixTable ds) 0)
+    by true ds = words-are suffixTable ds
     by false ds = refl
 
 -- words without the prefix, by alternative 1 and by 2

@@ -6,7 +6,6 @@ use Prim.Native.Nat.{ℕ, zero, suc}
 use Prim.Native.Char.{code}
 use Prim.Native.String.{String, [] as []ˢ, _∷_ as _∷ˢ_, _++_}
 use lib.Dec.{eqb}
-use Rattle.classes.specs.Classes.{classOf}
 use Rattle.classes.specs.declared.Class.the-variants.{Upper, Lower, Caseless, Mark, Number, Whitespace, Other}
 use Rattle.pattern.specs.Regex.{Item, char, kind, letter, nonWhite, Set, just, among, except, Piece, one, opt, many, some, upToThree, notAhead, anyCase?, thirds}
 use Rattle.pattern.specs.Pattern.{alternatives, o200k}
@@ -45,8 +44,8 @@ showPiece (many s) = showSet s ++ "*"
 showPiece (some s) = showSet s ++ "+"
 showPiece (upToThree s) = showSet s ++ "{1,3}"
 showPiece (notAhead s) = "(?!" ++ (showSet s ++ ")")
-showPiece (anyCase? ws) = "(?i:" ++ (bars ws ++ ")?")
-showPiece (thirds s) = showSet s ++ "(no notation)"
+showPiece (anyCase? ws vs) = "(?i:" ++ (bars ws ++ ")?")
+showPiece (thirds s) = showSet s ++ "{((n - 1) mod 3) + 1 of n}"
 
 abbrev pub show : List (List Piece) → String
 show rs = bars (map (showAll showPiece) rs)
@@ -70,7 +69,7 @@ template suffix digits slash =
 abbrev pub digitsText : ℕ → String
 digitsText zero = ""
 digitsText (suc zero) = "{1,3}"
-digitsText (suc (suc d)) = "(no notation)"
+digitsText (suc (suc d)) = "{((n - 1) mod 3) + 1 of n}"
 
 pub template-is-published : template "(?i:'s|'t|'re|'ve|'m|'ll|'d)?" "{1,3}" "/" ≡ published
 template-is-published = refl

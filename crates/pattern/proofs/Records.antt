@@ -20,7 +20,7 @@ use Rattle.pattern.specs.Answers.{passes, limit, checks, endsFrom, endsA
 use Rattle.pattern.specs.Records.{endsLine, fresh, Records, last, more, join, endsOfEach}
 use Rattle.pattern.proofs.ClosedForm.{newline-elim}
 use Rattle.pattern.proofs.Bounds.{token-good}
-use Rattle.pattern.proofs.Accepted.{Accepted, accepted, accepts}
+use Rattle.pattern.proofs.Accepted.{accepted, accepts}
 use Rattle.pattern.proofs.Closed as c
 use Rattle.pattern.proofs.Closed.{Closed, closed-snoc, fresh-closed, token-closed}
 

@@ -1,6 +1,6 @@
 -- One token with no backtracking: by the class of the first character, and by runs.
 use mathlib.Core.Bool.{Bool, true, false, cond, _&&_ as and, _||_ as or, not}
-use mathlib.Core.List.{List, [], _∷_}
+use mathlib.Core.List.{List, [], _∷_, _++_}
 use mathlib.Core.Option.{Option·getD}
 use Prim.Native.Nat.{ℕ, zero, suc, _+_, _-_, _%_, min}
 use Prim.Native.String.{String, count}
@@ -11,7 +11,7 @@ use Rattle.classes.specs.declared.Class.{Class}
 use Rattle.classes.specs.declared.Class.the-variants.{Upper, Lower, Caseless, Mark, Number, Whitespace, Other}
 use Rattle.pattern.specs.Regex.{holds, run, spells}
 use Rattle.pattern.specs.declared.Options.{Options}
-use Rattle.pattern.specs.Pattern.{suffixes, upperish as upperSet, lowerish as lowerSet, number as numberSet, white as whiteSet, punct as punctSet, newline as newlineSet, prefix as prefixSet, tail as tailSet}
+use Rattle.pattern.specs.Pattern.{suffixes, longS, upperish as upperSet, lowerish as lowerSet, number as numberSet, white as whiteSet, punct as punctSet, newline as newlineSet, prefix as prefixSet, tail as tailSet}
 use Rattle.pattern.proofs.Trial.{opens}
 use Rattle.pattern.proofs.Runs.{lastIn, after}
 
@@ -76,8 +76,11 @@ abbrev pub firstFit : List String → List ℕ → ℕ
 firstFit [] cs = 0
 firstFit (w ∷ ws) cs = cond (spells w cs) (count w) (firstFit ws cs)
 
+abbrev pub suffixTable : List String
+suffixTable = suffixes ++ longS
+
 unfoldable pub suffixEnd : Options → List ℕ → ℕ
-suffixEnd o cs = cond (o .contractions) (firstFit suffixes cs) 0
+suffixEnd o cs = cond (o .contractions) (firstFit suffixTable cs) 0
 
 unfoldable pub wordEnd : Options → List ℕ → ℕ
 wordEnd o cs = after (suffixEnd o) cs (caseEnd cs)

@@ -4,9 +4,9 @@ use mathlib.Core.List.{List, [], _∷_, _++_, map}
 use mathlib.Core.Path.{_≡_, refl, sym, _∙_, ap}
 use native.Mathlib.Omega.{arith}
 use native.Mathlib.Nat.{add-zero}
-use lib.ListN.{length, take, drop, length-drop, take-append-drop}
+use lib.ListN.{length, take, drop, take-append-drop}
 use lib.Seq.{drop-drop, drop-length}
-use Rattle.utf8.specs.Utf8.{chars, charsAt, width, widths, Valid, charStart}
+use Rattle.utf8.specs.Utf8.{chars, charsAt, width, widths, charStart}
 use Rattle.utf8.proofs.Tests.{by-le}
 use Rattle.utf8.proofs.Width.{widths-some}
 use Rattle.utf8.proofs.Chars.{chars-nil, chars-drop}
@@ -16,7 +16,7 @@ use Rattle.pattern.specs.Pattern.{token}
 use Rattle.pattern.specs.Records.{join}
 use Rattle.pattern.specs.Answers.{passes, checks, tokenEnd, endsFrom, endsAt}
 use Rattle.pattern.proofs.Bounds.{token-good}
-use Rattle.pattern.proofs.Accepted.{Accepted, accepted, on}
+use Rattle.pattern.proofs.Accepted.{accepted, on}
 
 by-chars : {P : Type 0} (cs : List ℕ) → (cs ≡ [] → P) → ((c : ℕ) (ds : List ℕ) → cs ≡ c ∷ ds → P) → P
 by-chars [] f g = f refl

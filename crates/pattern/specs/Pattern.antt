@@ -26,8 +26,12 @@ lowerish = among (kind Lower ∷ kind Caseless ∷ kind Mark ∷ [])
 abbrev pub suffixes : List String
 suffixes = "'s" ∷ "'t" ∷ "'re" ∷ "'ve" ∷ "'m" ∷ "'ll" ∷ "'d" ∷ []
 
+-- U+017F is an s in another case
+abbrev pub longS : List String
+longS = "'ſ" ∷ []
+
 abbrev pub suffix : Bool → List Piece
-suffix true = anyCase? suffixes ∷ []
+suffix true = anyCase? suffixes longS ∷ []
 suffix false = []
 
 abbrev pub number : Set

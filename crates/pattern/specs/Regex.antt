@@ -24,7 +24,7 @@ pub data Set : Type 0 where
 pub data Piece : Type 0 where
   one opt many some upToThree : Set → Piece  -- s, s?, s*, s+, s{1,3}
   notAhead : Set → Piece  -- (?!s)
-  anyCase? : List String → Piece  -- (?i:v|w)?
+  anyCase? : List String → List String → Piece  -- (?i:v|w)?, and the words outside ASCII that case folding takes to one of these
   thirds : Set → Piece  -- ((n - 1) mod 3) + 1 of the n that stand unbroken
 
 abbrev pub isItem : Item → ℕ → Bool
@@ -52,14 +52,14 @@ unfoldable pub down : ℕ → List ℕ
 down zero = []
 down (suc n) = suc n ∷ down n
 
--- c is the letter a in either case: itself, its capital, or U+017F, which is an s
-abbrev pub sameLetter : ℕ → ℕ → Bool
-sameLetter a c = eqb c a || within 0x61 a 0x7a && eqb (c + 32) a || eqb c 0x17f && eqb a 0x73
+-- c is a, or the capital of the small letter a
+abbrev pub eitherCase : ℕ → ℕ → Bool
+eitherCase a c = eqb c a || within 0x61 a 0x7a && eqb (c + 32) a
 
 abbrev pub spells : String → List ℕ → Bool
 spells []ˢ cs = true
 spells (a ∷ˢ w) [] = false
-spells (a ∷ˢ w) (c ∷ cs) = sameLetter (code a) c && spells w cs
+spells (a ∷ˢ w) (c ∷ cs) = eitherCase (code a) c && spells w cs
 
 -- the lengths of the words that stand at the front
 unfoldable pub wordsHere : List String → List ℕ → List ℕ
@@ -74,7 +74,7 @@ lengths (many s) cs = down (run (holds s) cs) ++ (0 ∷ [])
 lengths (some s) cs = down (run (holds s) cs)
 lengths (upToThree s) cs = down (min (run (holds s) cs) 3)
 lengths (notAhead s) cs = elim (run (holds s) cs) [ zero ↦ 0 ∷ [] | suc n ↦ [] ]
-lengths (anyCase? ws) cs = wordsHere ws cs ++ (0 ∷ [])
+lengths (anyCase? ws vs) cs = wordsHere (ws ++ vs) cs ++ (0 ∷ [])
 lengths (thirds s) cs = elim (run (holds s) cs) [ zero ↦ [] | suc n ↦ (n % 3 + 1) ∷ [] ]
 
 -- each length, in order, with each that f finds after it

@@ -1,15 +1,15 @@
 -- Places of a text: where characters begin, and that a valid text may be cut there.
 use Prim.Native.Nat.{ℕ, zero, suc, _+_, _-_, _/_, _%_, _<_, _≤_}
-use mathlib.Core.Bool.{Bool, true, false}
+use mathlib.Core.Bool.{true, false}
 use mathlib.Core.List.{List, [], _∷_, _++_}
 use mathlib.Core.Path.{_≡_, refl, sym, _∙_, ap}
 use native.Mathlib.Omega.{arith}
 use native.Mathlib.Nat.{add-zero}
 use lib.Dec.{ltb}
 use borrow.Author.Tests.{lt-ltb, le-ltb, ltb-false}
-use lib.ListN.{length, getD, take, drop, length-append, length-drop, List·getD-append, List·getD-eq-default}
+use lib.ListN.{length, getD, take, drop, length-append, List·getD-append, List·getD-eq-default}
 use lib.Seq.{getD-append-add, getD-append-seam, getD-drop, drop-drop, drop-append-seam, take-append-seam, take-at}
-use Rattle.utf8.specs.Utf8.{within, decode1, chars, charsAt, width, widths, validLength, Valid, charStart, encode1, encode}
+use Rattle.utf8.specs.Utf8.{within, decode1, chars, charsAt, width, widths, Valid, charStart, encode1, encode}
 use Rattle.utf8.specs.declared.Decoded.the-variants.{Char}
 use Rattle.utf8.proofs.Tests.{by-le, in-range, below, above}
 use Rattle.utf8.proofs.Table.{lead-00}

@@ -4,7 +4,7 @@ use mathlib.Core.Path.{_≡_, refl}
 use native.Mathlib.Omega.{arith}
 use Rattle.utf8.specs.Utf8.{leadOf}
 use Rattle.utf8.specs.declared.Lead.the-variants.{One, Two, Three, Four}
-use Rattle.utf8.proofs.Tests.{in-range, below, above}
+use Rattle.utf8.proofs.Tests.{in-range, above}
 
 pub lead-e0 : leadOf 0xe0 ≡ Three 0xa0 0xbf
 unfolding leadOf

@@ -74,11 +74,7 @@ unfoldable pub chars : List ℕ → List ℕ
 unfolding charsFrom
 chars bs = charsFrom 0 bs
 
--- the same at a place of a text
-unfoldable pub decodeAt : List ℕ → ℕ → Decoded
-unfolding decode1
-decodeAt s at = decode1 (drop at s)
-
+-- from a place of a text on
 unfoldable pub charsAt : List ℕ → ℕ → List ℕ
 unfolding chars
 charsAt s at = chars (drop at s)
