@@ -16,7 +16,7 @@ use Rattle.pattern.proofs.Runs.{lastStep, lastIn, after}
 use Rattle.pattern.specs.declared.Options.{Options}
 use Rattle.pattern.specs.Pattern.{token}
 use Rattle.pattern.proofs.Trial.{opens, run-step}
-use Rattle.pattern.proofs.Step.{upperish, lowerish, number, white, punct, newline, isULM, isLLM, isWhite, isPunct, is, tail, groupOf, isWordy, wordy, caseEnd, firstFit, suffixTable, suffixEnd, wordEnd, punctEnd, isEnd, keep, spaceEnd, stepBy, step}
+use Rattle.pattern.proofs.Step.{upperish, lowerish, number, white, punct, newline, isUpperish, isLowerish, isWhite, isPunct, is, tail, groupOf, isWordy, wordy, caseEnd, firstFit, suffixTable, suffixEnd, wordEnd, punctEnd, isEnd, keep, spaceEnd, stepBy, step}
 use Rattle.pattern.proofs.ClosedForm.{token-is-step}
 
 -- from 1 to l
@@ -58,7 +58,7 @@ case-good c cs e = rw (run-step upperish c cs) (by (classOf c) (lastIn upperish 
     (last-within upperish lowerish cs) (run-le lowerish cs) (run-le upperish cs) e)
   where
     by : (k : Class) (m : Option ℕ) (r u : ℕ) → Within (length cs) m → r ≤ length cs → u ≤ length cs → isWordy k ≡ true
-        → Good (suc (length cs)) (Option·getD (lastStep (isULM k) (isLLM k) m r) (cond (isULM k) (suc u) 0))
+        → Good (suc (length cs)) (Option·getD (lastStep (isUpperish k) (isLowerish k) m r) (cond (isUpperish k) (suc u) 0))
     by Upper none r u w h g e = omega arith
     by Upper (some n) r u w h g e = omega arith
     by Lower m r u w h g e = omega arith

@@ -18,7 +18,7 @@ use Rattle.pattern.specs.Pattern.{token, newline as newlineSet}
 use Rattle.pattern.specs.Records.{noneOf, fresh}
 use Rattle.pattern.proofs.Trial.{opens, run-step}
 use Rattle.pattern.proofs.Runs.{lastStep, lastIn, after, last-none}
-use Rattle.pattern.proofs.Step.{upperish, lowerish, number, white, punct, newline, isULM, isLLM, isNumber, isPunct, is, tail, wordy, caseEnd, firstFit, suffixTable, suffixEnd, wordEnd, punctEnd, isEnd, keep, spaceEnd, stepBy, step}
+use Rattle.pattern.proofs.Step.{upperish, lowerish, number, white, punct, newline, isUpperish, isLowerish, isNumber, isPunct, is, tail, wordy, caseEnd, firstFit, suffixTable, suffixEnd, wordEnd, punctEnd, isEnd, keep, spaceEnd, stepBy, step}
 use Rattle.pattern.proofs.ClosedForm.{token-is-step, newline-white, newline-is-white, newline-elim}
 use Rattle.pattern.proofs.Bounds.{and-right}
 
@@ -90,11 +90,11 @@ last-below p q a b (there {c} {cs} k) = by (p c) (q c) (lastIn p q cs) (run q cs
 -- the classes of the words, of numbers and of punctuation are without CR and LF
 upperish-avoids : Avoids upperish
 unfolding holds
-upperish-avoids c h = ap isULM (newline-white c h)
+upperish-avoids c h = ap isUpperish (newline-white c h)
 
 lowerish-avoids : Avoids lowerish
 unfolding holds
-lowerish-avoids c h = ap isLLM (newline-white c h)
+lowerish-avoids c h = ap isLowerish (newline-white c h)
 
 number-avoids : Avoids number
 unfolding holds

@@ -17,7 +17,7 @@ use Rattle.pattern.proofs.Trial.{opens, first-trials, run-step, or-asso
 use Rattle.pattern.proofs.Runs.{lastStep, lastIn, after, mapO, many-total, many-some, last-after}
 use Rattle.pattern.specs.declared.Options.{Options}
 use Rattle.pattern.specs.Pattern.{alternatives, suffix, digits, token, space, upperish as upperSet, lowerish as lowerSet, white as whiteSet, punct as punctSet, newline as newlineSet, prefix as prefixSet, tail as tailSet}
-use Rattle.pattern.proofs.Step.{upperish, lowerish, number, white, punct, newline, prefix, tail, is, isPre, isULM, isLLM, isWhite, isWordy, wordy, caseEnd, firstFit, suffixTable, suffixEnd, wordEnd, punctEnd, isEnd, keep, spaceEnd, groupOf, stepBy, step}
+use Rattle.pattern.proofs.Step.{upperish, lowerish, number, white, punct, newline, prefix, tail, is, isPrefix, isUpperish, isLowerish, isWhite, isWordy, wordy, caseEnd, firstFit, suffixTable, suffixEnd, wordEnd, punctEnd, isEnd, keep, spaceEnd, groupOf, stepBy, step}
 
 -- the suffix: the first word that stands there
 words-are : (ws : List String) (cs : List ℕ) → orElse (tryEach (wordsHere ws cs) stop cs) (some 0) ≡ some (firstFit ws cs)
@@ -70,8 +70,8 @@ word-is o (c ∷ cs) = rw (lower-is o (c ∷ cs), upper-is o c cs, run-step uppe
     S = suffixEnd o
 
     by : (k : Class) (m : Option ℕ) (r u : ℕ) → (m ≡ none → run lowerish (drop u cs) ≡ 0)
-        → orElse (mapO (after S (c ∷ cs)) (lastStep (isULM k) (isLLM k) m r)) (cond (isULM k) (some (suc (after (λ ds. after S ds (run lowerish ds)) cs u))) none)
-        ≡ cond (isWordy k) (some (after S (c ∷ cs) (Option·getD (lastStep (isULM k) (isLLM k) m r) (cond (isULM k) (suc u) 0)))) none
+        → orElse (mapO (after S (c ∷ cs)) (lastStep (isUpperish k) (isLowerish k) m r)) (cond (isUpperish k) (some (suc (after (λ ds. after S ds (run lowerish ds)) cs u))) none)
+        ≡ cond (isWordy k) (some (after S (c ∷ cs) (Option·getD (lastStep (isUpperish k) (isLowerish k) m r) (cond (isUpperish k) (suc u) 0)))) none
     by Upper none r u z = rw (z refl) (ap some (rw (zero-add, suc-add)))
     by Upper (some n) r u z = refl
     by Lower m r u z = refl
@@ -111,11 +111,11 @@ pub space-white : (c : ℕ) → is 32 c ≡ true → classOf c ≡ Whitespace
 unfolding classOf
 space-white c e = is-elim (λ c. classOf c ≡ Whitespace) 32 c refl e
 
-prefix-is : (c : ℕ) → prefix c ≡ and (isPre (classOf c)) (not (newline c))
+prefix-is : (c : ℕ) → prefix c ≡ and (isPrefix (classOf c)) (not (newline c))
 unfolding holds
 prefix-is c = by (is 13 c) (is 10 c) (classOf c)
   where
-    by : (a b : Bool) (k : Class) → not (or a (or b (or (isLetter k) (or (same Number k) false)))) ≡ and (isPre k) (not (or a (or b false)))
+    by : (a b : Bool) (k : Class) → not (or a (or b (or (isLetter k) (or (same Number k) false)))) ≡ and (isPrefix k) (not (or a (or b false)))
     by a b k = go a b (isLetter k) (same Number k)
       where
         go : (a b l n : Bool) → not (or a (or b (or l (or n false)))) ≡ and (not (or l n)) (not (or a (or b false)))
@@ -167,8 +167,8 @@ words-is o c cs = rw (words-open o c cs, ← word-is o cs, prefix-is c)
   where
     by : (k : Class) (b : Bool) (l u l′ u′ : Option ℕ) → orElse l′ u′ ≡ cond (isWordy k) (some (wordEnd o (c ∷ cs))) none
         → (k ≡ Mark → l′ ≡ orElse (up l) (some (after (suffixEnd o) (c ∷ cs) 1))) → (b ≡ true → k ≡ Whitespace)
-        → orElse (orElse (cond (and (isPre k) (not b)) (up l) none) l′) (orElse (cond (and (isPre k) (not b)) (up u) none) u′)
-        ≡ cond (isWordy k) (some (wordEnd o (c ∷ cs))) (cond (and (isPre k) (not b)) (up (orElse l u)) none)
+        → orElse (orElse (cond (and (isPrefix k) (not b)) (up l) none) l′) (orElse (cond (and (isPrefix k) (not b)) (up u) none) u′)
+        ≡ cond (isWordy k) (some (wordEnd o (c ∷ cs))) (cond (and (isPrefix k) (not b)) (up (orElse l u)) none)
     by Upper b l u l′ u′ w m n = w
     by Lower b l u l′ u′ w m n = w
     by Caseless b l u l′ u′ w m n = w

@@ -1,14 +1,16 @@
--- How a pattern is written: what is written for the o200k setting is the published pattern, and for others the same with its option's part replaced.
-use mathlib.Core.Bool.{Bool, true, false, cond}
+-- How a pattern is written in the usual notation: the o200k setting as the published pattern, the others as that pattern with document 01's replacements.
+use mathlib.Core.Bool.{Bool, true, false, cond, not, _||_}
 use mathlib.Core.Path.{_≡_, refl}
 use mathlib.Core.List.{List, [], _∷_, map}
 use Prim.Native.Nat.{ℕ, zero, suc}
 use Prim.Native.Char.{code}
 use Prim.Native.String.{String, [] as []ˢ, _∷_ as _∷ˢ_, _++_}
 use lib.Dec.{eqb}
+use Rattle.classes.specs.Classes.{classOf, same, isLetter}
+use Rattle.classes.specs.declared.Class.{Class}
 use Rattle.classes.specs.declared.Class.the-variants.{Upper, Lower, Caseless, Mark, Number, Whitespace, Other}
-use Rattle.pattern.specs.Regex.{Item, char, kind, letter, nonWhite, Set, just, among, except, Piece, one, opt, many, some, upToThree, notAhead, anyCase?, thirds}
-use Rattle.pattern.specs.Pattern.{alternatives, o200k}
+use Rattle.pattern.specs.Regex.{Item, char, kind, letter, nonWhite, Set, just, among, except, Piece, one, opt, many, some, upToThree, notAhead, anyCase?, thirds, holds}
+use Rattle.pattern.specs.Pattern.{alternatives, o200k, punct}
 
 abbrev pub showItem : Item → String
 showItem (char a) = cond (eqb (code a) 13) "\\r" (cond (eqb (code a) 10) "\\n" (a ∷ˢ []ˢ))
@@ -88,3 +90,17 @@ others-are-replaced false (suc zero) true = refl
 others-are-replaced false (suc zero) false = refl
 others-are-replaced false (suc (suc d)) true = refl
 others-are-replaced false (suc (suc d)) false = refl
+
+-- the set of alternative 4, which document 01 calls Mark and Other
+pub punct-is-mark-or-other : (c : ℕ) → holds punct c ≡ same Mark (classOf c) || same Other (classOf c)
+unfolding holds
+punct-is-mark-or-other c = by (classOf c)
+  where
+    by : (k : Class) → not (same Whitespace k || (isLetter k || (same Number k || false))) ≡ same Mark k || same Other k
+    by Upper = refl
+    by Lower = refl
+    by Caseless = refl
+    by Mark = refl
+    by Number = refl
+    by Whitespace = refl
+    by Other = refl

@@ -53,7 +53,7 @@ ends-append o (suc k) at (x ∷ xs) ys f s h = ends-append o k (at + width x) xs
 ends-moved : (o : Options) (k j at : ℕ) (cs : List ℕ) → endsFrom o k (j + at) cs ≡ map (λ e. j + e) (endsFrom o k at cs)
 unfolding endsFrom
 ends-moved o k j at [] = refl
-ends-moved o zero j at (c ∷ cs) = rw (add-assoc, add-assoc, ends-moved o (token o (c ∷ cs) - 1) j (at + width c) cs)
+ends-moved o zero j at (c ∷ cs) = rw (add-assoc j at (widths (take (token o (c ∷ cs)) (c ∷ cs))), add-assoc j at (width c), ends-moved o (token o (c ∷ cs) - 1) j (at + width c) cs)
 ends-moved o (suc k) j at (c ∷ cs) = rw (add-assoc, ends-moved o k j (at + width c) cs)
 
 -- a record that ends in CR or LF, before some text: both are valid, and their characters stand one after the other

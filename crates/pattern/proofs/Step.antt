@@ -1,4 +1,4 @@
--- One token with no backtracking: by the class of the first character, and by runs.
+-- The closed form: one token with no backtracking, by the class of the first character and by runs. It is proved, not believed (ClosedForm).
 use mathlib.Core.Bool.{Bool, true, false, cond, _&&_ as and, _||_ as or, not}
 use mathlib.Core.List.{List, [], _∷_, _++_}
 use mathlib.Core.Option.{Option·getD}
@@ -43,11 +43,11 @@ tail b = holds (tailSet b)
 abbrev pub is : ℕ → ℕ → Bool
 is a c = eqb c a
 
-abbrev pub isULM : Class → Bool
-isULM k = or (same Upper k) (or (same Caseless k) (or (same Mark k) false))
+abbrev pub isUpperish : Class → Bool
+isUpperish k = or (same Upper k) (or (same Caseless k) (or (same Mark k) false))
 
-abbrev pub isLLM : Class → Bool
-isLLM k = or (same Lower k) (or (same Caseless k) (or (same Mark k) false))
+abbrev pub isLowerish : Class → Bool
+isLowerish k = or (same Lower k) (or (same Caseless k) (or (same Mark k) false))
 
 abbrev pub isNumber : Class → Bool
 isNumber k = same Number k
@@ -58,8 +58,8 @@ isWhite k = same Whitespace k
 abbrev pub isPunct : Class → Bool
 isPunct k = not (or (same Whitespace k) (or (isLetter k) (or (same Number k) false)))
 
-abbrev pub isPre : Class → Bool
-isPre k = not (or (isLetter k) (same Number k))
+abbrev pub isPrefix : Class → Bool
+isPrefix k = not (or (isLetter k) (same Number k))
 
 abbrev pub isWordy : Class → Bool
 isWordy k = or (isLetter k) (same Mark k)
