@@ -5,3 +5,4 @@ pub mod Says
 pub mod Chars
 pub mod Inverse
 pub mod Place
+pub mod At

@@ -14,7 +14,7 @@ use Rattle.utf8.specs.declared.Decoded.the-variants.{Char}
 use Rattle.utf8.proofs.Tests.{by-le, in-range, below, above}
 use Rattle.utf8.proofs.Table.{lead-00}
 use Rattle.utf8.proofs.Width.{by-width, encode-1, encode-2, encode-3, encode-4, width-1, width-2, width-3, width-4, length-encode1, widths-split, widths-encode}
-use Rattle.utf8.proofs.Chars.{by-front, char-is, chars-char, chars-drop}
+use Rattle.utf8.proofs.Chars.{by-front, char-is, chars-char, chars-nil, chars-drop}
 use Rattle.utf8.proofs.Inverse.{valid-encode, chars-scalars, scalars-take, encode-split, encode-valid}
 
 -- the definition, by whether the place is in the first character
@@ -154,3 +154,12 @@ ascii-split xs b ys h v =
     let on = on-start s i v (omega arith) (start-of s i v (omega arith) n) in
     let t : chars (drop i s) ≡ b ∷ chars ys = ap chars (drop-append-seam xs (b ∷ ys)) ∙ ascii-char b ys h in
     (rw take-append-seam at (on-before s i v on), omega (arith, on .rest, ap widths t, width-1 b h))
+
+-- a text of ASCII bytes is valid
+pub ascii-valid : (s : List ℕ) → ((k : ℕ) → k < length s → getD s k 0 ≤ 0x7f) → Valid s
+unfolding widths
+ascii-valid [] f = ap widths chars-nil
+ascii-valid (b ∷ bs) f =
+    let h = f 0 (omega arith) in
+    let t = ascii-valid bs (λ k l. f (suc k) (omega arith)) in
+    omega (arith, ap widths (ascii-char b bs h), width-1 b h)

@@ -3,8 +3,8 @@ use Prim.Native.Nat.{ℕ, _≤_}
 use mathlib.Core.Path.{_≡_, refl}
 use native.Mathlib.Omega.{arith}
 use Rattle.utf8.specs.Utf8.{leadOf}
-use Rattle.utf8.specs.declared.Lead.the-variants.{One, Two, Three, Four}
-use Rattle.utf8.proofs.Tests.{in-range, above}
+use Rattle.utf8.specs.declared.Lead.the-variants.{None, One, Two, Three, Four}
+use Rattle.utf8.proofs.Tests.{in-range, below, above}
 
 pub lead-e0 : leadOf 0xe0 ≡ Three 0xa0 0xbf
 unfolding leadOf
@@ -44,3 +44,13 @@ module _ (b : ℕ) where
   unfolding leadOf
   lead-f1 g h =
       rw (above 0 b 0x7f (omega arith), above 0xc2 b 0xdf (omega arith), above 0xe0 b 0xe0 (omega arith), above 0xe1 b 0xec (omega arith), above 0xed b 0xed (omega arith), above 0xee b 0xef (omega arith), above 0xf0 b 0xf0 (omega arith), in-range 0xf1 b 0xf3 g h)
+
+  pub lead-none : 0x80 ≤ b → b ≤ 0xc1 → leadOf b ≡ None
+  unfolding leadOf
+  lead-none g h =
+      rw (above 0 b 0x7f (omega arith), below 0xc2 b 0xdf (omega arith), below 0xe0 b 0xe0 (omega arith), below 0xe1 b 0xec (omega arith), below 0xed b 0xed (omega arith), below 0xee b 0xef (omega arith), below 0xf0 b 0xf0 (omega arith), below 0xf1 b 0xf3 (omega arith), below 0xf4 b 0xf4 (omega arith))
+
+  pub lead-past : 0xf5 ≤ b → leadOf b ≡ None
+  unfolding leadOf
+  lead-past g =
+      rw (above 0 b 0x7f (omega arith), above 0xc2 b 0xdf (omega arith), above 0xe0 b 0xe0 (omega arith), above 0xe1 b 0xec (omega arith), above 0xed b 0xed (omega arith), above 0xee b 0xef (omega arith), above 0xf0 b 0xf0 (omega arith), above 0xf1 b 0xf3 (omega arith), above 0xf4 b 0xf4 (omega arith))

@@ -4,11 +4,13 @@ use mathlib.Core.List.{List, [], _∷_, _++_}
 use mathlib.Core.Path.{_≡_}
 use Prim.Native.Nat.{ℕ, zero, suc, _+_, _-_, _*_, _/_, _%_}
 use lib.ListN.{length, getD, drop}
-use lib.Dec.{leb, ltb}
+use lib.Dec.{leb, ltb, eqb}
 use Rattle.utf8.specs.declared.Lead.{Lead}
 use Rattle.utf8.specs.declared.Lead.the-variants.{None, One, Two, Three, Four}
 use Rattle.utf8.specs.declared.Decoded.{Decoded}
 use Rattle.utf8.specs.declared.Decoded.the-variants.{Char, Bad, End}
+use Rattle.utf8.specs.declared.Checked.{Checked}
+use Rattle.utf8.specs.declared.Checked.the-variants.{Valid as Sound, BadAt}
 
 abbrev pub pick : {A : Type 0} → Bool → A → A → A
 pick true x y = x
@@ -74,7 +76,11 @@ unfoldable pub chars : List ℕ → List ℕ
 unfolding charsFrom
 chars bs = charsFrom 0 bs
 
--- from a place of a text on
+-- the same from a place of a text on
+unfoldable pub decodeAt : List ℕ → ℕ → Decoded
+unfolding decode1
+decodeAt s at = decode1 (drop at s)
+
 unfoldable pub charsAt : List ℕ → ℕ → List ℕ
 unfolding chars
 charsAt s at = chars (drop at s)
@@ -93,6 +99,10 @@ validLength bs = widths (chars bs)
 
 abbrev pub Valid : List ℕ → Type 0
 Valid bs = validLength bs ≡ length bs
+
+-- what the check of a text answers
+unfoldable pub checked : List ℕ → Checked
+checked bs = pick (eqb (validLength bs) (length bs)) Sound (BadAt (validLength bs))
 
 -- the place of the first byte of the character that a place is in
 unfoldable pub charStart : List ℕ → ℕ → ℕ
