@@ -1,13 +1,13 @@
 -- The ranges are sorted and disjoint, and with those of White_Space give each value one class: one test that is computed over the tables, and the law that turns it into the rule.
 use mathlib.Core.Bool.{Bool, true, false}
 use mathlib.Core.List.{List, [], _∷_}
-use mathlib.Core.Path.{_≡_, refl, sym, _∙_}
+use mathlib.Core.Path.{_≡_, refl, _∙_}
 use Prim.Native.Nat.{ℕ, suc, _≤_}
 use native.Mathlib.Omega.{arith}
 use lib.Dec.{leb, ltb}
 use borrow.Author.Tests.{leb-true, ltb-true}
 use Rattle.utf8.specs.Utf8.{pick, within}
-use Rattle.utf8.proofs.Tests.{never, both, below, above, range-true}
+use Rattle.utf8.proofs.Tests.{both, passed, below, above, range-true}
 use Rattle.classes.specs.Range.{Range}
 use Rattle.classes.specs.Ranges.{ranges}
 use Rattle.classes.specs.Classes.{whiteSpace, classIn, classOf}
@@ -47,11 +47,6 @@ white-ascends = refl
 pub white-apart : apart whiteSpace ranges ≡ true
 unfolding whiteSpace ranges
 white-apart = refl
-
--- a test before others: where all pass, it does and they do
-passed : (b : Bool) {later : Bool} → (elim b as (λ _. Bool) [ true ↦ later | false ↦ false ]) ≡ true → (b ≡ true) × (later ≡ true)
-passed true e = (refl, e)
-passed false e = never (sym e)
 
 -- THE LAW. What follows a range begins past it
 least : (n : ℕ) {r : Range} {rs : List Range} → ascends n rs ≡ true → In r rs → n ≤ r .from

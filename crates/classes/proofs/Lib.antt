@@ -1,1 +1,4 @@
 pub mod Disjoint
+pub mod Scan
+pub mod Bytes
+pub mod Unique

@@ -2,7 +2,7 @@
 use mathlib.Core.Bool.{Bool, true, false, _||_}
 use mathlib.Core.List.{List, [], _∷_}
 use Prim.Native.Nat.{ℕ}
-use lib.Dec.{eqb}
+use lib.Dec.{leb, eqb}
 use Rattle.utf8.specs.Utf8.{pick, within, scalar}
 use Rattle.classes.specs.Range.{Range, range}
 use Rattle.classes.specs.Ranges.{ranges}
@@ -58,3 +58,10 @@ pub data Said (A : Type 0) : Type 0 where
 -- what is said of a number whose class is asked
 unfoldable pub classSaid : ℕ → Said Class
 classSaid c = pick (scalar c) (gives (classOf c)) (says 6 0)
+
+-- a byte that is an ASCII character of a class, and one that is an ASCII letter
+abbrev pub asciiIs : Class → ℕ → Bool
+asciiIs k b = pick (leb b 0x7f) (same k (classOf b)) false
+
+abbrev pub asciiLetter : ℕ → Bool
+asciiLetter b = pick (leb b 0x7f) (isLetter (classOf b)) false

@@ -1,3 +1,4 @@
 pub mod Range
 pub mod Ranges
 pub mod Classes
+pub mod Rows

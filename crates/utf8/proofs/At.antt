@@ -1,13 +1,12 @@
 -- What stands at a place of a text, and the check's two answers. These are what the proof of a scanner cites.
 use Prim.Native.Nat.{ℕ, suc, _+_, _<_, _≤_}
-use mathlib.Core.Bool.{true, false}
 use mathlib.Core.List.{List, [], _∷_}
-use mathlib.Core.Path.{_≡_, refl, sym, _∙_, ap, subst}
+use mathlib.Core.Path.{_≡_, _∙_, subst}
 use native.Mathlib.Omega.{arith}
 use borrow.Author.Tests.{eq-eqb, ne-eqb}
 use lib.ListN.{length, getD, drop, length-drop, drop-of-length-le}
 use lib.Seq.{drop-cons, drop-drop, getD-drop}
-use Rattle.utf8.specs.Utf8.{leadOf, decodeAs, decode1, chars, decodeAt, charsAt, width, widths, validLength, checked}
+use Rattle.utf8.specs.Utf8.{leadOf, decodeAs, decode1, decodeAt, charsAt, width, validLength, checked}
 use Rattle.utf8.specs.declared.Decoded.the-variants.{Char, Bad, End}
 use Rattle.utf8.specs.declared.Checked.the-variants.{Valid, BadAt}
 use Rattle.utf8.proofs.Table.{lead-00}

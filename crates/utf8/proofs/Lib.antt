@@ -6,3 +6,4 @@ pub mod Chars
 pub mod Inverse
 pub mod Place
 pub mod At
+pub mod Unique

@@ -1,7 +1,7 @@
 -- By cases on a test of numbers, with what the test says.
 use Prim.Native.Nat.{ℕ, _<_, _≤_}
 use mathlib.Core.Bool.{Bool, true, false}
-use mathlib.Core.Path.{_≡_, refl}
+use mathlib.Core.Path.{_≡_, refl, sym}
 use native.Mathlib.Omega.{arith}
 use lib.Dec.{leb}
 use borrow.Author.Tests.{le-leb, lt-leb, leb-true, leb-false}
@@ -28,6 +28,11 @@ never e = absurd (let z : _≡_ {A = ℕ} 0 1 = cc in omega arith)
 pub both : (a b : Bool) → pick a b false ≡ true → (a ≡ true) × (b ≡ true)
 both true b e = (refl, e)
 both false b e = never (cc)
+
+-- a test before others: where all pass, it does and they do
+pub passed : (b : Bool) {later : Bool} → (elim b as (λ _. Bool) [ true ↦ later | false ↦ false ]) ≡ true → (b ≡ true) × (later ≡ true)
+passed true e = (refl, e)
+passed false e = never (sym e)
 
 -- a test of a range, both ways
 pub in-range : (a b z : ℕ) → a ≤ b → b ≤ z → within a b z ≡ true
