@@ -1,5 +1,5 @@
 -- What the classes say of a byte: tests of ranges, compared with the definition at each of the 256 bytes by computation.
-use mathlib.Core.Bool.{Bool, true, false}
+use mathlib.Core.Bool.{Bool, true, false, _||_}
 use mathlib.Core.Path.{_≡_, refl, sym, _∙_}
 use Prim.Native.Nat.{ℕ, zero, suc, _+_, _%_, _^_, _-_, _≤_, _<_}
 use native.Mathlib.Omega.{arith}
@@ -8,8 +8,8 @@ use lib.Dec.{eqb, ltb}
 use borrow.Author.Tests.{lt-ltb, le-ltb}
 use Rattle.utf8.specs.Utf8.{pick, within}
 use Rattle.utf8.proofs.Tests.{by-le, passed, in-range, below, above}
-use Rattle.classes.specs.Classes.{classOf, asciiIs, asciiLetter}
-use Rattle.classes.specs.declared.Class.the-variants.{Upper, Number, Whitespace}
+use Rattle.classes.specs.Classes.{classOf, same, asciiIs, asciiLetter}
+use Rattle.classes.specs.declared.Class.the-variants.{Upper, Caseless, Mark, Number, Whitespace}
 
 abbrev equal : Bool → Bool → Bool
 equal true b = b
@@ -50,6 +50,11 @@ white-range = agree-at isBlank (asciiIs Whitespace) 256 refl
 pub letter-range : (b : ℕ) → b < 256 → within 97 (bitOr b 32) 122 ≡ asciiLetter b
 unfolding classOf
 letter-range = agree-at (λ b. within 97 (bitOr b 32) 122) asciiLetter 256 refl
+
+-- ASCII has no caseless letter and no mark
+pub ascii-plain : (b : ℕ) → b < 0x80 → (same Caseless (classOf b) || same Mark (classOf b)) ≡ false
+unfolding classOf
+ascii-plain = agree-at (λ b. same Caseless (classOf b) || same Mark (classOf b)) (λ b. false) 128 refl
 
 -- a range of n bytes that begins at a, tested by the wrapped difference
 pub wrapped : (a n b r : ℕ) → r < 256 → b < 256 → 1 ≤ n → a + n ≤ 256 → (r + a) % 2 ^ 8 ≡ b → ltb r n ≡ within a b (a + n - 1)

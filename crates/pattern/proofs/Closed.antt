@@ -19,7 +19,7 @@ use Rattle.pattern.specs.Records.{noneOf, fresh}
 use Rattle.pattern.proofs.Trial.{opens, run-step}
 use Rattle.pattern.proofs.Runs.{lastStep, lastIn, after, last-none}
 use Rattle.pattern.proofs.Step.{upperish, lowerish, number, white, punct, newline, isUpperish, isLowerish, isNumber, isPunct, is, tail, wordy, caseEnd, firstFit, suffixTable, suffixEnd, wordEnd, punctEnd, isEnd, keep, spaceEnd, stepBy, step}
-use Rattle.pattern.proofs.ClosedForm.{token-is-step, newline-white, newline-is-white, newline-elim}
+use Rattle.pattern.proofs.ClosedForm.{token-is-step, newline-white, newline-is-white, newline-elim, tail-is}
 use Rattle.pattern.proofs.Bounds.{and-right}
 
 -- the last character is CR or LF
@@ -229,21 +229,6 @@ quiet-last (c ∷ cs) h = by (white c) (newline c) (quiet cs) (lastIn white newl
     by true false q m h w ih = rw (ih h)
     by false true q m h w ih = cc (w refl)
     by false false q m h w ih = refl
-
-tail-is : (b : Bool) (c : ℕ) → tail b c ≡ or (newline c) (and b (is 47 c))
-unfolding holds
-tail-is true c = by (is 13 c) (is 10 c) (is 47 c)
-  where
-    by : (x y z : Bool) → or x (or y (or z false)) ≡ or (or x (or y false)) z
-    by true y z = refl
-    by false true z = refl
-    by false false true = refl
-    by false false false = refl
-tail-is false c = by (newline c)
-  where
-    by : (x : Bool) → x ≡ or x false
-    by true = refl
-    by false = refl
 
 fresh-tail : (o : Options) (ys : List ℕ) → fresh o ys ≡ true → run (tail (o .slash)) ys ≡ 0
 unfolding fresh quiet run noneOf holds

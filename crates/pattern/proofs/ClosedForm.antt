@@ -111,6 +111,22 @@ pub space-white : (c : ℕ) → is 32 c ≡ true → classOf c ≡ Whitespace
 unfolding classOf
 space-white c e = is-elim (λ c. classOf c ≡ Whitespace) 32 c refl e
 
+-- the tail: CR, LF and, with the slash option, slash
+pub tail-is : (b : Bool) (c : ℕ) → tail b c ≡ or (newline c) (and b (is 47 c))
+unfolding holds
+tail-is true c = by (is 13 c) (is 10 c) (is 47 c)
+  where
+    by : (x y z : Bool) → or x (or y (or z false)) ≡ or (or x (or y false)) z
+    by true y z = refl
+    by false true z = refl
+    by false false true = refl
+    by false false false = refl
+tail-is false c = by (newline c)
+  where
+    by : (x : Bool) → x ≡ or x false
+    by true = refl
+    by false = refl
+
 prefix-is : (c : ℕ) → prefix c ≡ and (isPrefix (classOf c)) (not (newline c))
 unfolding holds
 prefix-is c = by (is 13 c) (is 10 c) (classOf c)

@@ -1,15 +1,18 @@
 -- What stands at a place of a text, and the check's two answers. These are what the proof of a scanner cites.
-use Prim.Native.Nat.{ℕ, suc, _+_, _<_, _≤_}
+use Prim.Native.Nat.{ℕ, suc, _+_, _-_, _<_, _≤_}
+use native.Mathlib.Nat.{add-zero}
 use mathlib.Core.List.{List, [], _∷_}
-use mathlib.Core.Path.{_≡_, _∙_, subst}
+use mathlib.Core.Path.{_≡_, refl, _∙_, ap, subst}
 use native.Mathlib.Omega.{arith}
 use borrow.Author.Tests.{eq-eqb, ne-eqb}
-use lib.ListN.{length, getD, drop, length-drop, drop-of-length-le}
-use lib.Seq.{drop-cons, drop-drop, getD-drop}
-use Rattle.utf8.specs.Utf8.{leadOf, decodeAs, decode1, decodeAt, charsAt, width, validLength, checked}
+use lib.ListN.{length, getD, take, drop, length-drop, drop-of-length-le}
+use lib.Seq.{drop-cons, drop-drop, take-all, getD-drop}
+use Rattle.utf8.specs.Utf8.{leadOf, decodeAs, decode1, chars, decodeAt, charsAt, width, validLength, checked}
+use Rattle.utf8.specs.declared.Decoded.{Decoded}
 use Rattle.utf8.specs.declared.Decoded.the-variants.{Char, Bad, End}
 use Rattle.utf8.specs.declared.Checked.the-variants.{Valid, BadAt}
 use Rattle.utf8.proofs.Table.{lead-00}
+use Rattle.utf8.proofs.Width.{encode-1}
 use Rattle.utf8.proofs.Says.{Say, decode-says}
 use Rattle.utf8.proofs.Chars.{char-is, chars-char, chars-bad, chars-end}
 
@@ -65,6 +68,30 @@ at-end s at e =
 
 pub at-past : (s : List ℕ) (at : ℕ) → length s ≤ at → Past s at
 at-past s at h = at-end s at (decode-none s at h)
+
+-- by the character at a place, or none
+pub by-place : {P : Type 0} (s : List ℕ) (at : ℕ) → ((c w : ℕ) → decodeAt s at ≡ Char c w → P) → (charsAt s at ≡ [] → P) → P
+by-place {P} s at f g = go (decodeAt s at) refl
+  where
+    go : (d : Decoded) → decodeAt s at ≡ d → P
+    go (Char c w) e = f c w e
+    go Bad e = g (at-bad s at e .none)
+    go End e = g (at-end s at e .none)
+
+-- an ASCII character is its byte
+pub ascii-back : (s : List ℕ) (at : ℕ) {c w : ℕ} → decodeAt s at ≡ Char c w → c ≤ 0x7f → getD s at 0 ≡ c
+unfolding decodeAt
+ascii-back s at {c} {w} e h =
+    let q : drop at s ≡ c ∷ drop w (drop at s) = char-is (drop at s) e .same ∙ rw (encode-1 c h) in
+    rw (← (add-zero at), ← (getD-drop at s 0 0), q)
+
+-- what the code's `&s[at..]` is, and its characters
+pub to-end : (s : List ℕ) (at : ℕ) → take (length s - at) (drop at s) ≡ drop at s
+to-end s at = take-all (length s - at) (drop at s) (omega (arith, length-drop at s))
+
+pub chars-to-end : (s : List ℕ) (at : ℕ) → chars (take (length s - at) (drop at s)) ≡ charsAt s at
+unfolding charsAt
+chars-to-end s at = ap chars (to-end s at)
 
 -- the two answers of a check
 pub checked-bad : (s : List ℕ) (at : ℕ) → validLength s ≡ at → at < length s → BadAt at ≡ checked s

@@ -7,3 +7,4 @@ pub mod Inverse
 pub mod Place
 pub mod At
 pub mod Unique
+pub mod Wide

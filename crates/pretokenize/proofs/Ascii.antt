@@ -1,0 +1,75 @@
+-- What the byte tests say of the class of an ASCII character.
+use Prim.Native.Nat.{ℕ, _≤_}
+use mathlib.Core.Bool.{Bool, true, false, _||_ as or, not}
+use mathlib.Core.Path.{_≡_, refl}
+use lib.Dec.{eqb}
+use borrow.Author.Tests.{le-leb}
+use Rattle.utf8.specs.Utf8.{pick}
+use Rattle.classes.specs.Classes.{classOf, rank, same, isLetter, asciiIs, asciiLetter}
+use Rattle.classes.specs.declared.Class.{Class}
+use Rattle.classes.specs.declared.Class.the-variants.{Upper, Lower, Caseless, Mark, Number, Whitespace, Other}
+use Rattle.pattern.proofs.Step.{isNumber, isWhite, isPunct}
+
+-- a class by its rank
+pub rank-number : (k : Class) → eqb (rank k) 4 ≡ isNumber k
+rank-number Upper = refl
+rank-number Lower = refl
+rank-number Caseless = refl
+rank-number Mark = refl
+rank-number Number = refl
+rank-number Whitespace = refl
+rank-number Other = refl
+
+pub rank-white : (k : Class) → eqb (rank k) 5 ≡ isWhite k
+rank-white Upper = refl
+rank-white Lower = refl
+rank-white Caseless = refl
+rank-white Mark = refl
+rank-white Number = refl
+rank-white Whitespace = refl
+rank-white Other = refl
+
+pub rank-punct : (k : Class) → pick (eqb (rank k) 3) true (eqb (rank k) 6) ≡ isPunct k
+rank-punct Upper = refl
+rank-punct Lower = refl
+rank-punct Caseless = refl
+rank-punct Mark = refl
+rank-punct Number = refl
+rank-punct Whitespace = refl
+rank-punct Other = refl
+
+-- the answers of the byte tests at an ASCII byte
+module _ (b : ℕ) (low : b ≤ 0x7f) where
+  pub letter-test : asciiLetter b ≡ isLetter (classOf b)
+  letter-test = rw (le-leb b 0x7f low)
+
+  pub class-test : (k : Class) → asciiIs k b ≡ same k (classOf b)
+  class-test k = rw (le-leb b 0x7f low)
+
+-- punctuation is what is no white space, no letter and no number
+pub white-no-punct : (k : Class) → isWhite k ≡ true → isPunct k ≡ false
+white-no-punct k e = by (isWhite k) (isLetter k) (isNumber k) e
+  where
+    by : (w l n : Bool) → w ≡ true → not (or w (or l (or n false))) ≡ false
+    by w l n e = rw e
+
+pub letter-no-punct : (k : Class) → isLetter k ≡ true → isPunct k ≡ false
+letter-no-punct k e = by (isWhite k) (isLetter k) (isNumber k) e
+  where
+    by : (w l n : Bool) → l ≡ true → not (or w (or l (or n false))) ≡ false
+    by true l n e = refl
+    by false l n e = rw e
+
+pub number-no-punct : (k : Class) → isNumber k ≡ true → isPunct k ≡ false
+number-no-punct k e = by (isWhite k) (isLetter k) (isNumber k) e
+  where
+    by : (w l n : Bool) → n ≡ true → not (or w (or l (or n false))) ≡ false
+    by true l n e = refl
+    by false true n e = refl
+    by false false n e = rw e
+
+pub else-punct : (k : Class) → isLetter k ≡ false → isNumber k ≡ false → isWhite k ≡ false → isPunct k ≡ true
+else-punct k l n w = by (isWhite k) (isLetter k) (isNumber k) l n w
+  where
+    by : (w l n : Bool) → l ≡ false → n ≡ false → w ≡ false → not (or w (or l (or n false))) ≡ true
+    by w l n a b c = rw (a, b, c)

@@ -1,0 +1,4 @@
+pub mod Outside
+pub mod Stands
+pub mod Ascii
+pub mod Ended
