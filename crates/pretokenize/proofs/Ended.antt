@@ -1,12 +1,41 @@
 -- The end of a character that is of a class, and runs of the class: how they go on, character by character.
-use Prim.Native.Nat.{ℕ}
-use mathlib.Core.Bool.{Bool}
-use mathlib.Core.List.{List, []}
-use mathlib.Core.Path.{_≡_}
-use Rattle.utf8.specs.Utf8.{pick, charsAt}
-use Rattle.pretokenize.specs.Place.{Stands}
-use Rattle.pretokenize.specs.Scan.{ended}
+use Prim.Native.Nat.{ℕ, _+_, _<_}
+use mathlib.Core.Bool.{Bool, true, false}
+use mathlib.Core.List.{List, [], _∷_}
+use mathlib.Core.Path.{_≡_, refl, sym, _∙_, ap}
+use native.Mathlib.Omega.{arith}
+use Rattle.utf8.specs.Utf8.{pick, charsAt, width, widths}
+use Rattle.utf8.proofs.Tests.{by-bool}
+use Rattle.utf8.proofs.At.{at-char, by-place}
+use Rattle.pattern.specs.Regex.{run}
+use Rattle.pattern.proofs.Trial.{run-step}
+use Rattle.pretokenize.specs.Place.{Whole, Stands}
+use Rattle.pretokenize.specs.Scan.{span, runWidth, ended}
 use Rattle.pretokenize.specs.declared.o200k_family.Ended.the-variants.{At, No}
+use Rattle.pretokenize.proofs.Stands.{stands}
+
+-- by the character at a place of checked text, or none
+pub by-stands : {P : Type 0} (s : List ℕ) (at : ℕ) → Whole s at → ((c e : ℕ) → Stands s at c e → P) → (charsAt s at ≡ [] → P) → P
+by-stands s at h f g = by-place s at (λ c w e. f c (at + w) (stands s at h (at-char s at e))) g
+
+module _ (p : ℕ → Bool) where
+  pub run-in : (c : ℕ) (cs : List ℕ) → p c ≡ true → runWidth p (c ∷ cs) ≡ width c + runWidth p cs
+  unfolding runWidth span widths
+  run-in c cs e = rw (run-step p c cs, e)
+
+  pub run-out : (c : ℕ) (cs : List ℕ) → p c ≡ false → runWidth p (c ∷ cs) ≡ 0
+  unfolding runWidth span widths
+  run-out c cs e = rw (run-step p c cs, e)
+
+  pub run-nil : runWidth p [] ≡ 0
+  unfolding runWidth span widths run
+  run-nil = refl
+
+-- a character of a run that was passed over: past its end, and the run from there on
+pub record Went (p : ℕ → Bool) (s : List ℕ) (at e : ℕ) : Type 0 where
+  pub past : at < e
+  pub whole : Whole s e
+  pub run : at + runWidth p (charsAt s at) ≡ e + runWidth p (charsAt s e)
 
 module _ (p : ℕ → Bool) (s : List ℕ) (at : ℕ) where
   pub ended-none : charsAt s at ≡ [] → No ≡ ended p at (charsAt s at)
@@ -16,3 +45,23 @@ module _ (p : ℕ → Bool) (s : List ℕ) (at : ℕ) where
   pub ended-at : {c e : ℕ} (b : Bool) → Stands s at c e → b ≡ p c → pick b (At e) No ≡ ended p at (charsAt s at)
   unfolding ended
   ended-at b h q = rw (h .then, ← q, h .wide)
+
+  pub went : {c e : ℕ} → Stands s at c e → p c ≡ true → Went p s at e
+  went {c} {e} h t = record { past = h .past; whole = h .whole; run = omega (arith, h .wide, ap (runWidth p) (h .then), run-in p c (charsAt s e) t) }
+
+  pub goes : {e : ℕ} → Whole s at → ended p at (charsAt s at) ≡ At e → Went p s at e
+  unfolding ended
+  goes {e} w q =
+      by-stands s at w
+      (λ c f h. by-bool (p c)
+      (λ t. let k : f ≡ e = cc (ended-at true h (sym t)) in rw k at (went h t))
+      (λ t. let z : _≡_ {A = ℕ} 0 1 = cc (ended-at false h (sym t)) in absurd (omega arith)))
+      (λ n. let z : _≡_ {A = ℕ} 0 1 = cc (ended-none n) in absurd (omega arith))
+
+  pub stops : Whole s at → ended p at (charsAt s at) ≡ No → runWidth p (charsAt s at) ≡ 0
+  stops w q =
+      by-stands s at w
+      (λ c f h. by-bool (p c)
+      (λ t. let z : _≡_ {A = ℕ} 0 1 = cc (ended-at true h (sym t)) in absurd (omega arith))
+      (λ t. ap (runWidth p) (h .then) ∙ run-out p c (charsAt s f) t))
+      (λ n. ap (runWidth p) n ∙ run-nil p)

@@ -2,3 +2,4 @@ pub mod Outside
 pub mod Stands
 pub mod Ascii
 pub mod Ended
+pub mod Case

@@ -6,13 +6,12 @@ use mathlib.Core.Path.{_≡_}
 use Prim.Native.Nat.{ℕ, zero, suc, _+_, _-_, _/_}
 use lib.ListN.{take}
 use Rattle.utf8.specs.Utf8.{pick, width, widths}
-use Rattle.classes.specs.Classes.{classOf}
+use Rattle.classes.specs.Classes.{classOf, asciiIs}
 use Rattle.classes.specs.declared.Class.{Class}
 use Rattle.classes.specs.declared.Class.the-variants.{Upper, Lower, Caseless, Mark, Number, Whitespace, Other}
-use Rattle.pattern.specs.declared.Options.{Options}
 use Rattle.pattern.specs.Regex.{run}
 use Rattle.pattern.proofs.Runs.{lastIn}
-use Rattle.pattern.proofs.Step.{upperish, lowerish, number, groupOf, suffixEnd}
+use Rattle.pattern.proofs.Step.{upperish, lowerish, number, groupOf, firstFit, suffixTable}
 use Rattle.pretokenize.specs.declared.o200k_family.Ended.{Ended}
 use Rattle.pretokenize.specs.declared.o200k_family.Ended.the-variants.{At, No}
 use Rattle.pretokenize.specs.declared.o200k_family.CaseState.{CaseState}
@@ -32,9 +31,13 @@ unfoldable pub ended : (ℕ → Bool) → ℕ → List ℕ → Ended
 ended p at [] = No
 ended p at (c ∷ cs) = pick (p c) (At (at + width c)) No
 
--- the suffix, in bytes
-unfoldable pub suffixWidth : Options → List ℕ → ℕ
-suffixWidth o cs = span (suffixEnd o cs) cs
+-- the suffix, in bytes, where contractions are on
+unfoldable pub suffixWidth : Bool → List ℕ → ℕ
+suffixWidth on cs = pick on (span (firstFit suffixTable cs) cs) 0
+
+-- the state past an ASCII letter that opens a letter run
+abbrev pub asciiState : ℕ → CaseState
+asciiState b = pick (asciiIs Upper b) (U 0) L
 
 -- the state past a character of a class that ends at e
 abbrev pub moved : Class → CaseState → ℕ → Turn

@@ -1,7 +1,7 @@
 -- The rows of the suffix table, as the code looks them up.
-use mathlib.Core.Bool.{true, false, _&&_, _||_}
+use mathlib.Core.Bool.{Bool, true, false}
 use mathlib.Core.List.{List, [], _∷_}
-use Prim.Native.Nat.{ℕ, suc, _+_}
+use Prim.Native.Nat.{ℕ, _+_}
 use lib.Dec.{eqb}
 use Rattle.utf8.specs.Utf8.{pick, within}
 
@@ -9,9 +9,25 @@ use Rattle.utf8.specs.Utf8.{pick, within}
 abbrev pub lowered : ℕ → ℕ
 lowered b = pick (within 65 b 90) (b + 32) b
 
--- of rows of a count and two bytes, the first that fits b and d: its count and the apostrophe; 0 where none does
+-- the rows: how many bytes follow the apostrophe, and these; U+017F is C5 BF
+unfoldable pub suffixRows : List ℕ
+suffixRows =
+    1 ∷ 0x73 ∷ 0 ∷
+    1 ∷ 0x74 ∷ 0 ∷
+    2 ∷ 0x72 ∷ 0x65 ∷
+    2 ∷ 0x76 ∷ 0x65 ∷
+    1 ∷ 0x6d ∷ 0 ∷
+    2 ∷ 0x6c ∷ 0x6c ∷
+    1 ∷ 0x64 ∷ 0 ∷
+    2 ∷ 0xc5 ∷ 0xbf ∷
+    []
+
+abbrev pub rowFits : ℕ → ℕ → ℕ → ℕ → ℕ → Bool
+rowFits n x y b d = pick (eqb b x) (pick (eqb n 1) true (eqb d y)) false
+
+-- the first of some rows that fits b and d: how many bytes it takes with the apostrophe; 0 where none fits
 unfoldable pub firstRow : List ℕ → ℕ → ℕ → ℕ
 firstRow [] b d = 0
 firstRow (n ∷ []) b d = 0
 firstRow (n ∷ x ∷ []) b d = 0
-firstRow (n ∷ x ∷ y ∷ rows) b d = elim (eqb b x && (eqb n 1 || eqb d y)) [ true ↦ suc n | false ↦ firstRow rows b d ]
+firstRow (n ∷ x ∷ y ∷ rows) b d = elim (rowFits n x y b d) [ true ↦ n + 1 | false ↦ firstRow rows b d ]

@@ -16,10 +16,12 @@ ghost use Prim.Native.Nat.{_+_, _≤_, _<_};
 ghost use lib.ListN.{length, getD};
 ghost use Rattle.utf8.specs.Utf8.{pick, chars, charsAt, decodeAt};
 ghost use Rattle.utf8.specs.declared.Decoded.the-variants.{Char};
-ghost use Rattle.classes.specs.Classes.{rank};
+ghost use Rattle.classes.specs.Classes.{classOf, rank};
+ghost use Rattle.classes.specs.declared.Class.the-variants.{Upper as UpperClass, Caseless as CaselessClass};
 ghost use Rattle.pattern.proofs.Step.{isNumber, isPunct, isWhite, newline, number, punct, tail, white};
-ghost use Rattle.pretokenize.specs.Place.{Ready, Beyond, Peeks};
-ghost use Rattle.pretokenize.specs.Scan.{ended};
+ghost use Rattle.pretokenize.specs.Place.{Whole, Ready, Beyond, Peeks};
+ghost use Rattle.pretokenize.specs.Scan.{runWidth, suffixWidth, ended, asciiState, moved, turned, finish, caseStop};
+ghost use Rattle.pretokenize.specs.Suffix.{lowered, rowFits, firstRow, suffixRows};
 
 // A character outside ASCII, by its scalar value and its width.
 struct CodePoint {
@@ -245,5 +247,206 @@ fn number_end(t: &Table, bytes: &[u8], pos: usize) -> Ended
         Peek::Nothing => Ended::No,
         Peek::Ascii(b) => ended_if(is_digit(b), pos + 1),
         Peek::Wide(_, e, k) => ended_if(is_number(k), e),
+    }
+}
+
+// A byte past the end counts as 0, which no row has.
+fn byte_at(bytes: &[u8], pos: usize) -> u8
+    ensures { λ r. ⌜ r ≡ getD (now (bytes .entry)) pos 0 ⌝ }
+{
+    if pos < bytes.len() { bytes[pos] } else { 0 }
+}
+
+fn to_ascii_lowercase(b: u8) -> u8
+    ensures { λ r. ⌜ r ≡ lowered b ⌝ }
+{
+    if is_upper_ascii(b) { b + 32 } else { b }
+}
+
+// The first row of the suffix table that fits the two bytes after an apostrophe: how many bytes it takes with the apostrophe; 0
+// where none fits.
+fn suffix_row(b: u8, d: u8) -> usize
+    ensures { λ r. ⌜ r ≡ firstRow suffixRows b d ⌝ }
+{
+    let mut i = 0;
+    while i < 24 {
+        let n = SUFFIXES[i];
+        if row_fits(n, SUFFIXES[i + 1], SUFFIXES[i + 2], b, d) {
+            return (n as usize) + 1;
+        }
+        i += 3;
+    }
+    0
+}
+
+fn row_fits(n: u8, x: u8, y: u8, b: u8, d: u8) -> bool
+    ensures { λ r. ⌜ r ≡ rowFits n x y b d ⌝ }
+{
+    if b == x {
+        if n == 1 {
+            return true;
+        }
+        return d == y;
+    }
+    false
+}
+
+// The end of the letter token that ends at a place, with its suffix where contractions are on.
+fn try_suffix(bytes: &[u8], end: usize, contractions: bool) -> usize
+    requires { ⌜ Whole (now bytes) end ⌝ }
+    ensures { λ r. ⌜ r ≡ end + suffixWidth contractions (charsAt (now (bytes .entry)) end) ⌝ }
+{
+    if !contractions {
+        return end;
+    }
+    if byte_at(bytes, end) != b'\'' {
+        return end;
+    }
+    let b = to_ascii_lowercase(byte_at(bytes, end + 1));
+    let d = to_ascii_lowercase(byte_at(bytes, end + 2));
+    end + suffix_row(b, d)
+}
+
+// The tail of a punctuation token, by bytes alone.
+fn scan_tail(bytes: &[u8], pos: usize, slash: bool) -> usize
+    requires { ⌜ Whole (now bytes) pos ⌝ }
+    ensures { λ r. ⌜ r ≡ pos + runWidth (tail slash) (charsAt (now (bytes .entry)) pos) ⌝ }
+{
+    let mut p = pos;
+    while p < bytes.len() {
+        if is_tail_byte(bytes[p], slash) {
+            p += 1;
+        } else {
+            return p;
+        }
+    }
+    p
+}
+
+// A run of punctuation.
+fn scan_punct_from(t: &Table, bytes: &[u8], pos: usize) -> usize
+    requires { ⌜ Ready (now t) (now bytes) pos ⌝ }
+    ensures { λ r. ⌜ r ≡ pos + runWidth punct (charsAt (now (bytes .entry)) pos) ⌝ }
+{
+    let mut p = pos;
+    loop {
+        let e = punct_end(t, bytes, p);
+        match e {
+            Ended::At(q) => p = q,
+            Ended::No => return p,
+        }
+    }
+}
+
+// The state of a letter run past its first letter, an ASCII one.
+fn ascii_letter_state(b: u8) -> CaseState
+    ensures { λ r. ⌜ r ≡ asciiState b ⌝ }
+{
+    if is_upper_ascii(b) {
+        CaseState::U { last_cl_end: 0 }
+    } else {
+        CaseState::L
+    }
+}
+
+// A letter run past a character of a class that ends at a place, or before it.
+fn case_moved(k: Class, st: CaseState, end: usize) -> Turn
+    ensures { λ r. ⌜ r ≡ moved k st end ⌝ }
+{
+    match k {
+        Class::Upper => upper_moved(st, end),
+        Class::Lower => Turn::Go(end, CaseState::L),
+        Class::Caseless => caseless_moved(st, end),
+        Class::Mark => caseless_moved(st, end),
+        Class::Number => Turn::Stop,
+        Class::Whitespace => Turn::Stop,
+        Class::Other => Turn::Stop,
+    }
+}
+
+fn upper_moved(st: CaseState, end: usize) -> Turn
+    ensures { λ r. ⌜ r ≡ moved UpperClass st end ⌝ }
+{
+    match st {
+        CaseState::U { last_cl_end } => Turn::Go(end, CaseState::U { last_cl_end }),
+        CaseState::L => Turn::Stop,
+    }
+}
+
+fn caseless_moved(st: CaseState, end: usize) -> Turn
+    ensures { λ r. ⌜ r ≡ moved CaselessClass st end ⌝ }
+{
+    match st {
+        CaseState::U { last_cl_end: _ } => Turn::Go(end, CaseState::U { last_cl_end: end }),
+        CaseState::L => Turn::Go(end, CaseState::L),
+    }
+}
+
+// The same past an ASCII byte.
+fn ascii_moved(b: u8, st: CaseState, end: usize) -> Turn
+    requires { ⌜ b < 0x80 ⌝ }
+    ensures { λ r. ⌜ r ≡ moved (classOf b) st end ⌝ }
+{
+    if is_upper_ascii(b) {
+        return upper_moved(st, end);
+    }
+    if is_letter(b) {
+        return Turn::Go(end, CaseState::L);
+    }
+    Turn::Stop
+}
+
+// A letter run past the character at a place, or before it.
+fn case_turn(t: &Table, bytes: &[u8], pos: usize, st: CaseState) -> Turn
+    requires { ⌜ Ready (now t) (now bytes) pos ⌝ }
+    ensures { λ r. ⌜ r ≡ turned st pos (charsAt (now (bytes .entry)) pos) ⌝ }
+{
+    let p = peek_at(t, bytes, pos);
+    match p {
+        Peek::Nothing => Turn::Stop,
+        Peek::Ascii(b) => ascii_moved(b, st, pos + 1),
+        Peek::Wide(_, e, k) => case_moved(k, st, e),
+    }
+}
+
+// The letter run past its first character, if a letter or a mark stands at the place.
+fn letter_run_first(t: &Table, bytes: &[u8], pos: usize) -> Turn
+    requires { ⌜ Ready (now t) (now bytes) pos ⌝ }
+    ensures { λ r. ⌜ r ≡ turned (CaseState.U 0) pos (charsAt (now (bytes .entry)) pos) ⌝ }
+{
+    case_turn(t, bytes, pos, CaseState::U { last_cl_end: 0 })
+}
+
+// Where the token ends if the letter run ends at a place: a run of upper case goes back to its last caseless letter or mark.
+fn case_finish(st: CaseState, pos: usize) -> usize
+    ensures { λ r. ⌜ r ≡ finish st pos ⌝ }
+{
+    match st {
+        CaseState::U { last_cl_end } => {
+            if last_cl_end == 0 {
+                return pos;
+            }
+            last_cl_end
+        }
+        CaseState::L => pos,
+    }
+}
+
+// The rest of a letter run.
+fn scan_case_run(t: &Table, bytes: &[u8], pos: usize, first: CaseState) -> usize
+    requires { ⌜ Ready (now t) (now bytes) pos ⌝ }
+    ensures { λ r. ⌜ r ≡ caseStop first pos (charsAt (now (bytes .entry)) pos) ⌝ }
+{
+    let mut p = pos;
+    let mut st = first;
+    loop {
+        let m = case_turn(t, bytes, p, st);
+        match m {
+            Turn::Go(e, next) => {
+                p = e;
+                st = next;
+            }
+            Turn::Stop => return case_finish(st, p),
+        }
     }
 }
