@@ -25,23 +25,24 @@ short c k (a ∷ []) h = refl
 short c k (a ∷ z ∷ []) h = refl
 short c k (a ∷ z ∷ j ∷ l) h = absurd (omega arith)
 
-module _ (rows : List ℕ) (i c : ℕ) (k : Class) where
-  front : i + 2 < length rows → drop i rows ≡ getD rows i 0 ∷ getD rows (i + 1) 0 ∷ getD rows (i + 2) 0 ∷ drop (i + 3) rows
-  front h =
-      let e1 : suc i ≡ i + 1 = omega arith in
-      let e2 : suc (i + 1) ≡ i + 2 = omega arith in
-      let e3 : suc (i + 2) ≡ i + 3 = omega arith in
-      drop-cons rows i 0 (omega arith)
-      ∙ ap (λ l. getD rows i 0 ∷ l) (ap (λ n. drop n rows) e1 ∙ drop-cons rows (i + 1) 0 (omega arith)
-      ∙ ap (λ l. getD rows (i + 1) 0 ∷ l) (ap (λ n. drop n rows) e2 ∙ drop-cons rows (i + 2) 0 h ∙ ap (λ n. getD rows (i + 2) 0 ∷ drop n rows) e3))
+-- a row in front
+pub row-front : (rows : List ℕ) (i : ℕ) → i + 2 < length rows → drop i rows ≡ getD rows i 0 ∷ getD rows (i + 1) 0 ∷ getD rows (i + 2) 0 ∷ drop (i + 3) rows
+row-front rows i h =
+    let e1 : suc i ≡ i + 1 = omega arith in
+    let e2 : suc (i + 1) ≡ i + 2 = omega arith in
+    let e3 : suc (i + 2) ≡ i + 3 = omega arith in
+    drop-cons rows i 0 (omega arith)
+    ∙ ap (λ l. getD rows i 0 ∷ l) (ap (λ n. drop n rows) e1 ∙ drop-cons rows (i + 1) 0 (omega arith)
+    ∙ ap (λ l. getD rows (i + 1) 0 ∷ l) (ap (λ n. drop n rows) e2 ∙ drop-cons rows (i + 2) 0 h ∙ ap (λ n. getD rows (i + 2) 0 ∷ drop n rows) e3))
 
+module _ (rows : List ℕ) (i c : ℕ) (k : Class) where
   pub row-holds : i + 2 < length rows → within (getD rows i 0) c (getD rows (i + 1) 0) ≡ true → classFrom rows i c k ≡ named (getD rows (i + 2) 0)
   unfolding classFrom rangesOf classIn
-  row-holds h e = rw (front h, e, classIn)
+  row-holds h e = rw (row-front rows i h, e, classIn)
 
   pub row-past : i + 2 < length rows → within (getD rows i 0) c (getD rows (i + 1) 0) ≡ false → classFrom rows i c k ≡ classFrom rows (i + 3) c k
   unfolding classFrom rangesOf classIn
-  row-past h e = rw (front h, e, classIn)
+  row-past h e = rw (row-front rows i h, e, classIn)
 
   pub rows-end : length rows ≤ i + 2 → classFrom rows i c k ≡ k
   unfolding classFrom

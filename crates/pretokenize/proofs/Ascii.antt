@@ -1,13 +1,18 @@
 -- What the byte tests say of the class of an ASCII character.
 use Prim.Native.Nat.{ℕ, _≤_}
 use mathlib.Core.Bool.{Bool, true, false, _||_ as or, not}
-use mathlib.Core.Path.{_≡_, refl}
+use mathlib.Core.Path.{_≡_, refl, sym}
 use lib.Dec.{eqb}
 use borrow.Author.Tests.{le-leb}
 use Rattle.utf8.specs.Utf8.{pick}
+use Rattle.utf8.proofs.Tests.{never}
 use Rattle.classes.specs.Classes.{classOf, rank, same, isLetter, asciiIs, asciiLetter}
 use Rattle.classes.specs.declared.Class.{Class}
 use Rattle.classes.specs.declared.Class.the-variants.{Upper, Lower, Caseless, Mark, Number, Whitespace, Other}
+use Rattle.pretokenize.specs.Scan.{moved}
+use Rattle.pretokenize.specs.declared.o200k_family.CaseState.{CaseState}
+use Rattle.pretokenize.specs.declared.o200k_family.CaseState.the-variants.{U, L}
+use Rattle.pretokenize.specs.declared.o200k_family.Turn.the-variants.{Stop}
 use Rattle.pattern.proofs.Step.{isNumber, isWhite, isPunct}
 
 -- a class by its rank
@@ -73,3 +78,35 @@ else-punct k l n w = by (isWhite k) (isLetter k) (isNumber k) l n w
   where
     by : (w l n : Bool) → l ≡ false → n ≡ false → w ≡ false → not (or w (or l (or n false))) ≡ true
     by w l n a b c = rw (a, b, c)
+
+-- which class it is
+pub upper-is : (k : Class) → same Upper k ≡ true → k ≡ Upper
+upper-is Upper e = refl
+upper-is Lower e = never (sym e)
+upper-is Caseless e = never (sym e)
+upper-is Mark e = never (sym e)
+upper-is Number e = never (sym e)
+upper-is Whitespace e = never (sym e)
+upper-is Other e = never (sym e)
+
+pub lower-is : (k : Class) → isLetter k ≡ true → same Upper k ≡ false → or (same Caseless k) (same Mark k) ≡ false → k ≡ Lower
+lower-is Upper e u p = never u
+lower-is Lower e u p = refl
+lower-is Caseless e u p = never p
+lower-is Mark e u p = never p
+lower-is Number e u p = never (sym e)
+lower-is Whitespace e u p = never (sym e)
+lower-is Other e u p = never (sym e)
+
+pub stop-is : (k : Class) → isLetter k ≡ false → or (same Caseless k) (same Mark k) ≡ false → (st : CaseState) (e : ℕ) → Stop ≡ moved k st e
+stop-is Upper l p st e = never l
+stop-is Lower l p st e = never l
+stop-is Caseless l p st e = never l
+stop-is Mark l p st e = never p
+stop-is Number l p st e = refl
+stop-is Whitespace l p st e = refl
+stop-is Other l p st e = refl
+
+pub mark-moves : (st : CaseState) (e : ℕ) → moved Caseless st e ≡ moved Mark st e
+mark-moves (U last) e = refl
+mark-moves L e = refl

@@ -28,7 +28,7 @@ abbrev After : CaseState → ℕ → ℕ → List ℕ → Turn → Type 0
 After st at c cs (Go e t) = caseStop st at (c ∷ cs) ≡ caseStop t e cs
 After st at c cs Stop = caseStop st at (c ∷ cs) ≡ finish st at
 
-finish-last : (last at : ℕ) → 1 ≤ last → finish (U last) at ≡ last
+pub finish-last : (last at : ℕ) → 1 ≤ last → finish (U last) at ≡ last
 finish-last zero at h = absurd (omega arith)
 finish-last (suc l) at h = refl
 

@@ -3,3 +3,4 @@ pub mod Stands
 pub mod Ascii
 pub mod Ended
 pub mod Case
+pub mod Bytes

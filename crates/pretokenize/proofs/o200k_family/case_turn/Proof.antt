@@ -1,53 +1,41 @@
+-- `pretokenize::o200k_family::case_turn` meets its contract: of an ASCII byte the byte tests tell, of any other character its class.
+-- Assumes nothing.
+use mathlib.Core.Path.{refl, ap, _∙_, subst}
+use native.Mathlib.Omega.{arith}
 use borrow.Author.Needs.{needs}
+use Rattle.pretokenize.specs.Place.{Peeks}
+use Rattle.pretokenize.proofs.Case.{turned-none, turned-at}
 use Rattle.pretokenize.proofs.o200k_family.case_turn.Statement.{statement}
 use Rattle.pretokenize.proofs.o200k_family.case_turn.Tie as tie
-use Rattle.pretokenize.proofs.o200k_family.case_turn.Reads as reads
-use Rattle.pretokenize.proofs.o200k_family.case_turn.Lts as lts
-use Rattle.pretokenize.proofs.o200k_family.ascii_moved.Reads as ascii-moved-reads
-use Rattle.pretokenize.proofs.o200k_family.case_moved.Reads as case-moved-reads
-use Rattle.pretokenize.proofs.o200k_family.peek_at.Reads as peek-at-reads
-
-peek-at-requires : tie.Need-peek-at-requires
-peek-at-requires c κs = search needs
-
-enum-told : tie.Need-enum-told
-enum-told c = search needs
-
-enum-known-p : tie.Need-enum-known-p
-enum-known-p c = search needs
-
-add-ascii-moved : tie.Need-add-ascii-moved
-add-ascii-moved c = search needs
-
-ascii-moved-requires : tie.Need-ascii-moved-requires
-ascii-moved-requires c κs = ?
-
-enum-known-p-2 : tie.Need-enum-known-p-2
-enum-known-p-2 c = search needs
-
-case-moved-requires : tie.Need-case-moved-requires
-case-moved-requires c κs = search needs
 
 returns : tie.Need-returns
-returns c = ?
+returns c = turned-none _ _ (c .before .before .before .before .args .st) (subst (Peeks _ _) (c .enum-told .given .1) (c .before .before .peek-at .ensures))
 
 returns-2 : tie.Need-returns-2
-returns-2 c = ?
+returns-2 c =
+    let a = c .before .before .before .before in
+    let h = subst (Peeks (a .before .before .args .bytes .now) (a .before .before .args .pos)) (c .before .before .p .given .1) (a .peek-at .ensures) in
+    c .ascii-moved .ensures ∙ turned-at _ _ (a .before .before .args .st) (h .here) refl
 
 returns-3 : tie.Need-returns-3
-returns-3 c = ?
+returns-3 c =
+    let a = c .before .before .before .before in
+    let h = subst (Peeks (a .before .before .args .bytes .now) (a .before .before .args .pos)) (c .before .before .p2 .given .1) (a .peek-at .ensures) in
+    c .case-moved .ensures ∙ turned-at _ _ (a .before .before .args .st) (h .0 .here) (h .1)
 
 pub case-turn-spec : {M : Type 1} → statement M
 case-turn-spec =
     tie.close
     (tie.spec
-    peek-at-requires
-    enum-told
-    enum-known-p
-    add-ascii-moved
-    ascii-moved-requires
-    enum-known-p-2
-    case-moved-requires
+    (λ c κs. search needs)
+    (λ c. search needs)
+    (λ c. search needs)
+    (λ c. search needs)
+    (λ c κs.
+    let h = subst (Peeks (c .before .before .before .before .before .args .bytes .now) (c .before .before .before .before .before .args .pos)) (c .before .p .given .1) (c .before .before .before .peek-at .ensures) in
+    omega (arith, h .low))
+    (λ c. search needs)
+    (λ c κs. search needs)
     returns
     returns-2
     returns-3)

@@ -1,39 +1,40 @@
+-- `pretokenize::o200k_family::scan_case_run` meets its contract: the run from `p` on in the state `st` ends where the whole run does.
+-- Assumes nothing.
+use Prim.Native.Nat.{_-_}
+use mathlib.Core.Path.{_≡_, refl, sym, _∙_}
+use native.Mathlib.Omega.{arith}
+use borrow.Author.Needs.{needs}
+use Rattle.utf8.specs.Utf8.{charsAt}
+use lib.ListN.{length}
+use Rattle.pretokenize.specs.Place.{Whole}
+use Rattle.pretokenize.specs.Scan.{caseStop}
+use Rattle.pretokenize.proofs.Case.{CaseWent, case-goes, case-stops}
 use Rattle.pretokenize.proofs.o200k_family.scan_case_run.Statement.{statement}
 use Rattle.pretokenize.proofs.o200k_family.scan_case_run.Tie as tie
-use Rattle.pretokenize.proofs.o200k_family.scan_case_run.Reads as reads
-use Rattle.pretokenize.proofs.o200k_family.scan_case_run.Lts as lts
-use Rattle.pretokenize.proofs.o200k_family.case_finish.Reads as case-finish-reads
-use Rattle.pretokenize.proofs.o200k_family.case_turn.Reads as case-turn-reads
 
 abbrev Inv-loop : tie.InvT-loop
-Inv-loop t bytes pos p₀ st₀ p st = ?
+Inv-loop t bytes pos p₀ st₀ p st = Whole bytes p × (caseStop st₀ p₀ (charsAt bytes p₀) ≡ caseStop st p (charsAt bytes p))
 
 abbrev μ-loop : tie.MeasureT-loop
-μ-loop t bytes pos p₀ st₀ p st = ?
+μ-loop t bytes pos p₀ st₀ p st = length bytes - p
+
+goes : (c : tie.After-known-told Inv-loop μ-loop)
+    → let l = c .before .before .before .before .loop in CaseWent (c .before .before .before .before .before .before .args .bytes .now) (l .p) (l .st) (c .before .m .given .0 .0) (c .before .m .given .0 .1 .0)
+goes c = case-goes _ _ _ (c .before .before .before .before .loop .inv .0) (sym (c .before .before .before .case-turn .ensures) ∙ c .before .m .given .1)
 
 loop-holds : tie.Need-loop-holds Inv-loop μ-loop
-loop-holds c = ?
-
-case-turn-requires : tie.Need-case-turn-requires Inv-loop μ-loop
-case-turn-requires c κs = ?
-
-enum-known-m : tie.Need-enum-known-m Inv-loop μ-loop
-enum-known-m c = ?
+loop-holds c = (c .before .pre .whole, refl)
 
 loop-less : tie.Need-loop-less Inv-loop μ-loop
-loop-less c = ?
+loop-less c = let g = goes c in omega (arith, g .past, g .whole)
 
 loop-again : tie.Need-loop-again Inv-loop μ-loop
-loop-again c = ?
-
-enum-told : tie.Need-enum-told Inv-loop μ-loop
-enum-told c = ?
-
-case-finish-requires : tie.Need-case-finish-requires Inv-loop μ-loop
-case-finish-requires c κs = ?
+loop-again c = let g = goes c in (g .whole, c .before .before .before .before .loop .inv .1 ∙ g .stop)
 
 returns : tie.Need-returns Inv-loop μ-loop
-returns c = ?
+returns c =
+    let l = c .before .before .before .before .loop in
+    c .case-finish .ensures ∙ sym (l .inv .1 ∙ case-stops _ _ (l .st) (l .inv .0) (sym (c .before .before .before .case-turn .ensures) ∙ c .before .enum-told .given .1))
 
 pub scan-case-run-spec : {M : Type 1} → statement M
 scan-case-run-spec =
@@ -42,10 +43,10 @@ scan-case-run-spec =
     Inv-loop
     μ-loop
     loop-holds
-    case-turn-requires
-    enum-known-m
+    (λ c κs. record { lent = c .before .before .pre .lent; whole = c .loop .inv .0 })
+    (λ c. search needs)
     loop-less
     loop-again
-    enum-told
-    case-finish-requires
+    (λ c. search needs)
+    (λ c κs. search needs)
     returns)

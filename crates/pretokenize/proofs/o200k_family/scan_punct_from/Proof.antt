@@ -1,35 +1,40 @@
+-- `pretokenize::o200k_family::scan_punct_from` meets its contract: the run is what was passed over and the run from there on.
+-- Assumes nothing.
+use Prim.Native.Nat.{_+_, _-_}
+use mathlib.Core.Path.{_≡_, refl, sym, _∙_}
+use native.Mathlib.Omega.{arith}
+use borrow.Author.Needs.{needs}
+use Rattle.utf8.specs.Utf8.{charsAt}
+use lib.ListN.{length}
+use Rattle.pattern.proofs.Step.{punct}
+use Rattle.pretokenize.specs.Place.{Whole}
+use Rattle.pretokenize.specs.Scan.{runWidth}
+use Rattle.pretokenize.proofs.Ended.{Went, goes, stops}
 use Rattle.pretokenize.proofs.o200k_family.scan_punct_from.Statement.{statement}
 use Rattle.pretokenize.proofs.o200k_family.scan_punct_from.Tie as tie
-use Rattle.pretokenize.proofs.o200k_family.scan_punct_from.Reads as reads
-use Rattle.pretokenize.proofs.o200k_family.scan_punct_from.Lts as lts
-use Rattle.pretokenize.proofs.o200k_family.punct_end.Reads as punct-end-reads
 
 abbrev Inv-loop : tie.InvT-loop
-Inv-loop t bytes pos p₀ p = ?
+Inv-loop t bytes pos p₀ p = Whole bytes p × (p₀ + runWidth punct (charsAt bytes p₀) ≡ p + runWidth punct (charsAt bytes p))
 
 abbrev μ-loop : tie.MeasureT-loop
-μ-loop t bytes pos p₀ p = ?
+μ-loop t bytes pos p₀ p = length bytes - p
+
+passed : (c : tie.After-known-told Inv-loop μ-loop) → Went punct (c .before .before .before .before .before .before .args .bytes .now) (c .before .before .before .before .loop .p) (c .before .e .given .0 .0)
+passed c = goes punct _ _ (c .before .before .before .before .loop .inv .0) (sym (c .before .before .before .punct-end .ensures) ∙ c .before .e .given .1)
 
 loop-holds : tie.Need-loop-holds Inv-loop μ-loop
-loop-holds c = ?
-
-punct-end-requires : tie.Need-punct-end-requires Inv-loop μ-loop
-punct-end-requires c κs = ?
-
-enum-known-e : tie.Need-enum-known-e Inv-loop μ-loop
-enum-known-e c = ?
+loop-holds c = (c .before .pre .whole, refl)
 
 loop-less : tie.Need-loop-less Inv-loop μ-loop
-loop-less c = ?
+loop-less c = let g = passed c in omega (arith, g .past, g .whole)
 
 loop-again : tie.Need-loop-again Inv-loop μ-loop
-loop-again c = ?
-
-enum-told : tie.Need-enum-told Inv-loop μ-loop
-enum-told c = ?
+loop-again c = let g = passed c in (g .whole, c .before .before .before .before .loop .inv .1 ∙ g .run)
 
 returns : tie.Need-returns Inv-loop μ-loop
-returns c = ?
+returns c =
+    let l = c .before .before .before .loop in
+    omega (arith, l .inv .1, stops punct _ _ (l .inv .0) (sym (c .before .before .punct-end .ensures) ∙ c .enum-told .given .1))
 
 pub scan-punct-from-spec : {M : Type 1} → statement M
 scan-punct-from-spec =
@@ -38,9 +43,9 @@ scan-punct-from-spec =
     Inv-loop
     μ-loop
     loop-holds
-    punct-end-requires
-    enum-known-e
+    (λ c κs. record { lent = c .before .before .pre .lent; whole = c .loop .inv .0 })
+    (λ c. search needs)
     loop-less
     loop-again
-    enum-told
+    (λ c. search needs)
     returns)
