@@ -1,11 +1,12 @@
 -- The end of a character that is of a class, and runs of the class: how they go on, character by character.
-use Prim.Native.Nat.{ℕ, _+_, _<_}
+use Prim.Native.Nat.{ℕ, _+_, _≤_, _<_}
 use mathlib.Core.Bool.{Bool, true, false}
 use mathlib.Core.List.{List, [], _∷_}
 use mathlib.Core.Path.{_≡_, refl, sym, _∙_, ap}
 use native.Mathlib.Omega.{arith}
 use Rattle.utf8.specs.Utf8.{pick, charsAt, width, widths}
 use Rattle.utf8.proofs.Tests.{by-bool}
+use Rattle.utf8.proofs.Width.{widths-split}
 use Rattle.utf8.proofs.At.{at-char, by-place}
 use Rattle.pattern.specs.Regex.{run}
 use Rattle.pattern.proofs.Trial.{run-step}
@@ -17,6 +18,11 @@ use Rattle.pretokenize.proofs.Stands.{stands}
 -- by the character at a place of checked text, or none
 pub by-stands : {P : Type 0} (s : List ℕ) (at : ℕ) → Whole s at → ((c e : ℕ) → Stands s at c e → P) → (charsAt s at ≡ [] → P) → P
 by-stands s at h f g = by-place s at (λ c w e. f c (at + w) (stands s at h (at-char s at e))) g
+
+-- n characters take no more than all
+pub span-room : (n : ℕ) (cs : List ℕ) → span n cs ≤ widths cs
+unfolding span
+span-room n cs = omega (arith, widths-split n cs)
 
 module _ (p : ℕ → Bool) where
   pub run-in : (c : ℕ) (cs : List ℕ) → p c ≡ true → runWidth p (c ∷ cs) ≡ width c + runWidth p cs

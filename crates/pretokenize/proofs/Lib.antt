@@ -4,3 +4,5 @@ pub mod Ascii
 pub mod Ended
 pub mod Case
 pub mod Bytes
+pub mod Letters
+pub mod Suffix

@@ -31,9 +31,12 @@ unfoldable pub ended : (ℕ → Bool) → ℕ → List ℕ → Ended
 ended p at [] = No
 ended p at (c ∷ cs) = pick (p c) (At (at + width c)) No
 
--- the suffix, in bytes, where contractions are on
+-- the suffix that stands in front, in bytes; none where contractions are off
+unfoldable pub suffixSpan : List ℕ → ℕ
+suffixSpan cs = span (firstFit suffixTable cs) cs
+
 unfoldable pub suffixWidth : Bool → List ℕ → ℕ
-suffixWidth on cs = pick on (span (firstFit suffixTable cs) cs) 0
+suffixWidth on cs = pick on (suffixSpan cs) 0
 
 -- the state past an ASCII letter that opens a letter run
 abbrev pub asciiState : ℕ → CaseState

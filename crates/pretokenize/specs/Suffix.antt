@@ -30,4 +30,4 @@ unfoldable pub firstRow : List ℕ → ℕ → ℕ → ℕ
 firstRow [] b d = 0
 firstRow (n ∷ []) b d = 0
 firstRow (n ∷ x ∷ []) b d = 0
-firstRow (n ∷ x ∷ y ∷ rows) b d = elim (rowFits n x y b d) [ true ↦ n + 1 | false ↦ firstRow rows b d ]
+firstRow (n ∷ x ∷ y ∷ rows) b d = pick (rowFits n x y b d) (n + 1) (firstRow rows b d)

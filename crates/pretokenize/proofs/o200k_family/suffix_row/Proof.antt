@@ -1,56 +1,48 @@
+-- `pretokenize::o200k_family::suffix_row` meets its contract: the rows from `i` on say what all of them say.
+-- Assumes nothing.
+use Prim.Native.Nat.{_+_, _-_, _%_, _≤_}
+use mathlib.Core.Path.{_≡_, refl, sym, _∙_}
+use native.Mathlib.Omega.{arith}
+use borrow.Author.Needs.{needs}
+use lib.ListN.{length}
+use Rattle.pretokenize.specs.Suffix.{firstRow, suffixRows}
+use Rattle.pretokenize.proofs.Suffix.{row-small, rowFrom, row-here, row-next}
 use Rattle.pretokenize.proofs.o200k_family.suffix_row.Statement.{statement}
 use Rattle.pretokenize.proofs.o200k_family.suffix_row.Tie as tie
-use Rattle.pretokenize.proofs.o200k_family.suffix_row.Reads as reads
-use Rattle.pretokenize.proofs.o200k_family.suffix_row.Lts as lts
-use Rattle.pretokenize.proofs.o200k_family.row_fits.Reads as row-fits-reads
 
 abbrev Inv-loop : tie.InvT-loop
-Inv-loop b d i₀ i = ?
+Inv-loop b d i₀ i = (i ≤ 24) × (i % 3 ≡ 0) × (firstRow suffixRows b d ≡ rowFrom suffixRows i b d)
 
 abbrev μ-loop : tie.MeasureT-loop
-μ-loop b d i₀ i = ?
+μ-loop b d i₀ i = 24 - i
 
 loop-holds : tie.Need-loop-holds Inv-loop μ-loop
-loop-holds c = ?
-
-array-read-n : tie.Need-array-read-n Inv-loop μ-loop
-array-read-n c = ?
-
-add-row-fits : tie.Need-add-row-fits Inv-loop μ-loop
-add-row-fits c = ?
-
-array-read-row-fits : tie.Need-array-read-row-fits Inv-loop μ-loop
-array-read-row-fits c = ?
-
-add-row-fits-2 : tie.Need-add-row-fits-2 Inv-loop μ-loop
-add-row-fits-2 c = ?
-
-array-read-row-fits-2 : tie.Need-array-read-row-fits-2 Inv-loop μ-loop
-array-read-row-fits-2 c = ?
-
-row-fits-requires : tie.Need-row-fits-requires Inv-loop μ-loop
-row-fits-requires c κs = ?
+unfolding rowFrom
+loop-holds c = (omega arith, refl, refl)
 
 cast-result : tie.Need-cast-result Inv-loop μ-loop
-cast-result c = ?
+unfolding suffixRows
+cast-result c = omega (arith, row-small (c .before .before .before .loop .i))
 
 add-result : tie.Need-add-result Inv-loop μ-loop
-add-result c = ?
+unfolding suffixRows
+add-result c = omega (arith, row-small (c .before .before .before .loop .i))
 
 returns : tie.Need-returns Inv-loop μ-loop
-returns c = ?
-
-add-i : tie.Need-add-i Inv-loop μ-loop
-add-i c = ?
-
-loop-less : tie.Need-loop-less Inv-loop μ-loop
-loop-less c = ?
+unfolding suffixRows
+returns c =
+    let l = c .before .before .before .loop in
+    sym (l .inv .2 ∙ row-here suffixRows (l .i) _ _ (omega arith) (sym (c .before .row-fits .ensures) ∙ c .if1 .taken))
 
 loop-again : tie.Need-loop-again Inv-loop μ-loop
-loop-again c = ?
+unfolding suffixRows
+loop-again c =
+    let l = c .before .before .before .loop in
+    (omega arith, omega arith, l .inv .2 ∙ row-next suffixRows (l .i) _ _ (omega arith) (sym (c .before .row-fits .ensures) ∙ c .if1 .left))
 
 returns-2 : tie.Need-returns-2 Inv-loop μ-loop
-returns-2 c = ?
+unfolding suffixRows rowFrom firstRow
+returns-2 c = let k : c .before .loop .i ≡ 24 = omega arith in sym (c .before .loop .inv .2 ∙ rw k)
 
 pub suffix-row-spec : {M : Type 1} → statement M
 suffix-row-spec =
@@ -59,16 +51,16 @@ suffix-row-spec =
     Inv-loop
     μ-loop
     loop-holds
-    array-read-n
-    add-row-fits
-    array-read-row-fits
-    add-row-fits-2
-    array-read-row-fits-2
-    row-fits-requires
+    (λ c. search needs)
+    (λ c. search needs)
+    (λ c. search needs)
+    (λ c. search needs)
+    (λ c. search needs)
+    (λ c κs. search needs)
     cast-result
     add-result
     returns
-    add-i
-    loop-less
+    (λ c. search needs)
+    (λ c. search needs)
     loop-again
     returns-2)
