@@ -1,6 +1,6 @@
 -- The end of a character that is of a class, and runs of the class: how they go on, character by character.
-use Prim.Native.Nat.{ℕ, _+_, _≤_, _<_}
-use mathlib.Core.Bool.{Bool, true, false}
+use Prim.Native.Nat.{ℕ, suc, _+_, _≤_, _<_}
+use mathlib.Core.Bool.{Bool, true, false, cond}
 use mathlib.Core.List.{List, [], _∷_}
 use mathlib.Core.Path.{_≡_, refl, sym, _∙_, ap}
 use native.Mathlib.Omega.{arith}
@@ -41,7 +41,9 @@ module _ (p : ℕ → Bool) where
 pub record Went (p : ℕ → Bool) (s : List ℕ) (at e : ℕ) : Type 0 where
   pub past : at < e
   pub whole : Whole s e
-  pub run : at + runWidth p (charsAt s at) ≡ e + runWidth p (charsAt s e)
+  pub wide : at + runWidth p (charsAt s at) ≡ e + runWidth p (charsAt s e)
+  pub count : run p (charsAt s at) ≡ suc (run p (charsAt s e))
+  pub spans : (n : ℕ) → at + span (suc n) (charsAt s at) ≡ e + span n (charsAt s e)
 
 module _ (p : ℕ → Bool) (s : List ℕ) (at : ℕ) where
   pub ended-none : charsAt s at ≡ [] → No ≡ ended p at (charsAt s at)
@@ -53,7 +55,14 @@ module _ (p : ℕ → Bool) (s : List ℕ) (at : ℕ) where
   ended-at b h q = rw (h .then, ← q, h .wide)
 
   pub went : {c e : ℕ} → Stands s at c e → p c ≡ true → Went p s at e
-  went {c} {e} h t = record { past = h .past; whole = h .whole; run = omega (arith, h .wide, ap (runWidth p) (h .then), run-in p c (charsAt s e) t) }
+  unfolding span widths
+  went {c} {e} h t = record {
+      past = h .past;
+      whole = h .whole;
+      wide = omega (arith, h .wide, ap (runWidth p) (h .then), run-in p c (charsAt s e) t);
+      count = ap (run p) (h .then) ∙ run-step p c (charsAt s e) ∙ ap (λ b. cond b (suc (run p (charsAt s e))) 0) t;
+      spans = λ n. omega (arith, h .wide, ap (λ cs. span (suc n) cs) (h .then));
+    }
 
   pub goes : {e : ℕ} → Whole s at → ended p at (charsAt s at) ≡ At e → Went p s at e
   unfolding ended
@@ -63,6 +72,15 @@ module _ (p : ℕ → Bool) (s : List ℕ) (at : ℕ) where
       (λ t. let k : f ≡ e = cc (ended-at true h (sym t)) in rw k at (went h t))
       (λ t. let z : _≡_ {A = ℕ} 0 1 = cc (ended-at false h (sym t)) in absurd (omega arith)))
       (λ n. let z : _≡_ {A = ℕ} 0 1 = cc (ended-none n) in absurd (omega arith))
+
+  pub stops-count : Whole s at → ended p at (charsAt s at) ≡ No → run p (charsAt s at) ≡ 0
+  unfolding run
+  stops-count w q =
+      by-stands s at w
+      (λ c f h. by-bool (p c)
+      (λ t. let z : _≡_ {A = ℕ} 0 1 = cc (ended-at true h (sym t)) in absurd (omega arith))
+      (λ t. ap (run p) (h .then) ∙ run-step p c (charsAt s f) ∙ ap (λ b. cond b (suc (run p (charsAt s f))) 0) t))
+      (λ n. ap (run p) n)
 
   pub stops : Whole s at → ended p at (charsAt s at) ≡ No → runWidth p (charsAt s at) ≡ 0
   stops w q =

@@ -6,3 +6,5 @@ pub mod Case
 pub mod Bytes
 pub mod Letters
 pub mod Suffix
+pub mod White
+pub mod Digits

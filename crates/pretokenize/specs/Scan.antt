@@ -87,6 +87,12 @@ groups zero n = 0
 groups (suc zero) n = 0
 groups (suc (suc d)) n = (n - 1) / 3
 
+-- of the ends of the first three of a run, that of a token grouped from the right: k is what is left of the numbers past the third, divided by three
+abbrev pub alignedEnd : ℕ → ℕ → ℕ → ℕ → ℕ
+alignedEnd first second third zero = third
+alignedEnd first second third (suc zero) = first
+alignedEnd first second third (suc (suc k)) = second
+
 -- a token of a run of digits: its length, and the groups that are left
 pub record Digits (mode : ℕ) (cs : List ℕ) (length rest : ℕ) : Type 0 where
   pub len : length ≡ span (groupOf mode (run number cs)) cs

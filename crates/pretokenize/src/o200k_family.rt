@@ -12,15 +12,16 @@ use classes::is_letter;
 use classes::is_upper_ascii;
 use pattern::Options;
 ghost use mathlib.Core.Path.{_≡_};
-ghost use Prim.Native.Nat.{_+_, _≤_, _<_};
+ghost use Prim.Native.Nat.{_+_, _/_, _%_, _^_, _≤_, _<_, min};
 ghost use lib.ListN.{length, getD};
 ghost use Rattle.utf8.specs.Utf8.{pick, chars, charsAt, decodeAt};
 ghost use Rattle.utf8.specs.declared.Decoded.the-variants.{Char};
 ghost use Rattle.classes.specs.Classes.{classOf, rank};
 ghost use Rattle.classes.specs.declared.Class.the-variants.{Upper as UpperClass, Caseless as CaselessClass};
-ghost use Rattle.pattern.proofs.Step.{isNumber, isPunct, isWhite, newline, number, punct, tail, white};
+ghost use Rattle.pattern.specs.Regex.{run};
+ghost use Rattle.pattern.proofs.Step.{isNumber, isPunct, isWhite, newline, number, punct, spaceEnd, tail, white};
 ghost use Rattle.pretokenize.specs.Place.{Whole, Ready, Beyond, Peeks};
-ghost use Rattle.pretokenize.specs.Scan.{runWidth, suffixWidth, ended, asciiState, moved, turned, finish, caseStop};
+ghost use Rattle.pretokenize.specs.Scan.{span, runWidth, suffixWidth, ended, asciiState, moved, turned, finish, caseStop, whiteStop, alignedEnd, Digits};
 ghost use Rattle.pretokenize.specs.Suffix.{lowered, rowFits, firstRow, suffixRows};
 
 // A character outside ASCII, by its scalar value and its width.
@@ -449,4 +450,155 @@ fn scan_case_run(t: &Table, bytes: &[u8], pos: usize, first: CaseState) -> usize
             Turn::Stop => return case_finish(st, p),
         }
     }
+}
+
+// Where a white-space token ends: `nl` is the end of its last CR or LF, `last` the start of its last character, 0 where there is
+// none, and `p` the end of its run.
+fn ws_stop(over: bool, nl: usize, last: usize, p: usize) -> usize
+    ensures { λ r. ⌜ r ≡ whiteStop over nl last p ⌝ }
+{
+    if nl != 0 {
+        return nl;
+    }
+    if over {
+        return p;
+    }
+    if last != 0 {
+        return last;
+    }
+    p
+}
+
+fn either_end(found: bool, end: usize, other: usize) -> usize
+    ensures { λ r. ⌜ r ≡ pick found end other ⌝ }
+{
+    if found { end } else { other }
+}
+
+// A token of white space: through its last CR or LF; else all of it at the end of the text, and all but its last character, if
+// it has more than one, before anything else.
+fn ws_token_end(t: &Table, bytes: &[u8]) -> usize
+    requires { ⌜ Ready (now t) (now bytes) 0 ⌝ }
+    ensures { λ r. ⌜ r ≡ span (spaceEnd (chars (now (bytes .entry)))) (chars (now (bytes .entry))) ⌝ }
+{
+    let mut p = 0;
+    let mut last_nl_end = 0;
+    let mut last_char_start = 0;
+    loop {
+        let w = white_end(t, bytes, p);
+        match w {
+            Ended::At(e) => {
+                last_nl_end = either_end(is_newline(byte_at(bytes, p)), e, last_nl_end);
+                last_char_start = p;
+                p = e;
+            }
+            Ended::No => return ws_stop(p == bytes.len(), last_nl_end, last_char_start, p),
+        }
+    }
+}
+
+// Up to two more number characters.
+fn scan_numbers_max3(t: &Table, bytes: &[u8], pos: usize) -> usize
+    requires { ⌜ Ready (now t) (now bytes) pos ⌝ }
+    ensures { λ r. ⌜ r ≡ pos + span (min (run number (charsAt (now (bytes .entry)) pos)) 2) (charsAt (now (bytes .entry)) pos) ⌝ }
+{
+    let d = number_end(t, bytes, pos);
+    match d {
+        Ended::At(e) => {
+            let f = number_end(t, bytes, e);
+            match f {
+                Ended::At(g) => g,
+                Ended::No => e,
+            }
+        }
+        Ended::No => pos,
+    }
+}
+
+// How many number characters stand unbroken.
+fn count_numbers(t: &Table, bytes: &[u8], pos: usize) -> usize
+    requires { ⌜ Ready (now t) (now bytes) pos ⌝ }
+    ensures { λ r. ⌜ r ≡ run number (charsAt (now (bytes .entry)) pos) ⌝ }
+{
+    let mut n = 0;
+    let mut p = pos;
+    loop {
+        let d = number_end(t, bytes, p);
+        match d {
+            Ended::At(e) => {
+                p = e;
+                n += 1;
+            }
+            Ended::No => return n,
+        }
+    }
+}
+
+// A token of a run of digits that is grouped from the right. The run is counted once: past this token it has a whole number of
+// groups, which are handed on.
+fn right_aligned_digit_end(t: &Table, bytes: &[u8], first_end: usize) -> Advance
+    requires { ⌜ Ready (now t) (now bytes) 0 ⌝ }
+    requires { ⌜ ended number 0 (chars (now bytes)) ≡ Ended.At «first_end» ⌝ }
+    ensures { λ r. ⌜ Digits 2 (chars (now (bytes .entry))) (r .len) (r .groups) ⌝ }
+{
+    let d = number_end(t, bytes, first_end);
+    match d {
+        Ended::No => Advance {
+            len: first_end,
+            groups: 0,
+        },
+        Ended::At(second) => {
+            let f = number_end(t, bytes, second);
+            match f {
+                Ended::No => Advance {
+                    len: second,
+                    groups: 0,
+                },
+                Ended::At(third) => {
+                    let more = count_numbers(t, bytes, third);
+                    aligned(first_end, second, third, more)
+                }
+            }
+        }
+    }
+}
+
+// By how many numbers follow the third: the ends of the first three are those of a token of one, two and three.
+fn aligned(first: usize, second: usize, third: usize, more: usize) -> Advance
+    requires { ⌜ more + 2 < 2 ^ 64 ⌝ }
+    ensures { λ r. ⌜ (r .len ≡ alignedEnd first second third (more % 3)) × (r .groups ≡ (more + 2) / 3) ⌝ }
+{
+    let groups = (more + 2) / 3;
+    let k = more % 3;
+    if k == 0 {
+        return Advance { len: third, groups };
+    }
+    if k == 1 {
+        return Advance { len: first, groups };
+    }
+    Advance {
+        len: second,
+        groups,
+    }
+}
+
+// A token of a run of digits whose first ends at `first_end`, by digit mode.
+fn digit_token_end(t: &Table, bytes: &[u8], first_end: usize, digits: u8) -> Advance
+    requires { ⌜ Ready (now t) (now bytes) 0 ⌝ }
+    requires { ⌜ ended number 0 (chars (now bytes)) ≡ Ended.At «first_end» ⌝ }
+    ensures { λ r. ⌜ Digits digits (chars (now (bytes .entry))) (r .len) (r .groups) ⌝ }
+{
+    if digits == 0 {
+        return Advance {
+            len: first_end,
+            groups: 0,
+        };
+    }
+    if digits == 1 {
+        return Advance {
+            len: scan_numbers_max3(t, bytes, first_end),
+            groups: 0,
+        };
+    }
+    right_aligned_digit_end(t, bytes, first_end)
 }

@@ -29,7 +29,7 @@ loop-less : tie.Need-loop-less Inv-loop μ-loop
 loop-less c = let g = passed c in omega (arith, g .past, g .whole)
 
 loop-again : tie.Need-loop-again Inv-loop μ-loop
-loop-again c = let g = passed c in (g .whole, c .before .before .before .before .loop .inv .1 ∙ g .run)
+loop-again c = let g = passed c in (g .whole, c .before .before .before .before .loop .inv .1 ∙ g .wide)
 
 returns : tie.Need-returns Inv-loop μ-loop
 returns c =

@@ -31,7 +31,7 @@ loop-holds : tie.Need-loop-holds Inv-loop μ-loop
 loop-holds c = (c .before .pre, refl)
 
 loop-again : tie.Need-loop-again Inv-loop μ-loop
-loop-again c = let g = passed c in (g .whole, c .before .before .before .before .loop .inv .1 ∙ g .run)
+loop-again c = let g = passed c in (g .whole, c .before .before .before .before .loop .inv .1 ∙ g .wide)
 
 returns : tie.Need-returns Inv-loop μ-loop
 returns c =
