@@ -57,12 +57,12 @@ module _ (p : ℕ → Bool) (s : List ℕ) (at : ℕ) where
   pub went : {c e : ℕ} → Stands s at c e → p c ≡ true → Went p s at e
   unfolding span widths
   went {c} {e} h t = record {
-      past = h .past;
-      whole = h .whole;
-      wide = omega (arith, h .wide, ap (runWidth p) (h .then), run-in p c (charsAt s e) t);
-      count = ap (run p) (h .then) ∙ run-step p c (charsAt s e) ∙ ap (λ b. cond b (suc (run p (charsAt s e))) 0) t;
-      spans = λ n. omega (arith, h .wide, ap (λ cs. span (suc n) cs) (h .then));
-    }
+    past = h .past;
+    whole = h .whole;
+    wide = omega (arith, h .wide, ap (runWidth p) (h .then), run-in p c (charsAt s e) t);
+    count = ap (run p) (h .then) ∙ run-step p c (charsAt s e) ∙ ap (λ b. cond b (suc (run p (charsAt s e))) 0) t;
+    spans = λ n. omega (arith, h .wide, ap (λ cs. span (suc n) cs) (h .then));
+  }
 
   pub goes : {e : ℕ} → Whole s at → ended p at (charsAt s at) ≡ At e → Went p s at e
   unfolding ended

@@ -8,3 +8,5 @@ pub mod Letters
 pub mod Suffix
 pub mod White
 pub mod Digits
+pub mod Spans
+pub mod Start

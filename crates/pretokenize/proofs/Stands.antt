@@ -19,9 +19,9 @@ stands-ascii s at h l e k = record { low = omega arith; byte = sym e; here = sta
 
 pub stands-wide : (s : List ℕ) (at : ℕ) {c w : ℕ} → Beyond s at → decodeAt s at ≡ Char c w → StandsWide s at c (at + w)
 stands-wide s at {c} b e = record {
-    high = by-le 0x80 c (λ h. h) (λ h. absurd (omega (arith, b .high, ascii-back s at e (omega arith))));
-    here = stands s at (b .whole) (at-char s at e);
-  }
+  high = by-le 0x80 c (λ h. h) (λ h. absurd (omega (arith, b .high, ascii-back s at e (omega arith))));
+  here = stands s at (b .whole) (at-char s at e);
+}
 
 pub stands-none : (s : List ℕ) (at : ℕ) → length s ≤ at → charsAt s at ≡ []
 stands-none s at h = at-past s at h .none
