@@ -1,4 +1,4 @@
--- `utf8::byte` meets its contract.
+-- `utf8::byte` meets its contract: past the end `getD` gives 0 too.
 -- Assumes nothing.
 use borrow.Author.Needs.{needs}
 use mathlib.Core.Path.{sym}

@@ -1,3 +1,5 @@
+-- `utf8::four` meets its contract: its tests are those of `from4`, whose answers are those of the branches.
+-- Assumes nothing.
 use borrow.Author.Needs.{needs}
 use Rattle.utf8.proofs.four.Statement.{statement}
 use Rattle.utf8.proofs.four.Tie as tie

@@ -1,3 +1,5 @@
+-- `utf8::three` meets its contract: its tests are those of `from3`, whose answers are those of the branches.
+-- Assumes nothing.
 use borrow.Author.Needs.{needs}
 use Rattle.utf8.proofs.three.Statement.{statement}
 use Rattle.utf8.proofs.three.Tie as tie

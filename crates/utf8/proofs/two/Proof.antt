@@ -1,3 +1,5 @@
+-- `utf8::two` meets its contract: its test is that of `from2`, whose answers are those of the branches.
+-- Assumes nothing.
 use borrow.Author.Needs.{needs}
 use Rattle.utf8.proofs.two.Statement.{statement}
 use Rattle.utf8.proofs.two.Tie as tie

@@ -1,4 +1,4 @@
--- `utf8::within` meets its contract.
+-- `utf8::within` meets its contract: its tests are those of the definition.
 -- Assumes nothing.
 use borrow.Author.Tests.{le-leb, lt-leb}
 use Rattle.utf8.proofs.within.Statement.{statement}
