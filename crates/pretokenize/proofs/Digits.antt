@@ -15,7 +15,7 @@ use Rattle.pretokenize.specs.Scan.{span, ended, groups, alignedEnd, Digi
 use Rattle.pretokenize.specs.declared.o200k_family.Ended.the-variants.{At, No}
 use Rattle.pretokenize.proofs.Ended.{Went, goes, stops-count}
 
-span-none : (cs : List ℕ) → span 0 cs ≡ 0
+pub span-none : (cs : List ℕ) → span 0 cs ≡ 0
 unfolding span widths
 span-none cs = refl
 
