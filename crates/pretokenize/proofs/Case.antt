@@ -1,18 +1,17 @@
 -- A letter run in the closed form, character by character.
 use Prim.Native.Nat.{ℕ, zero, suc, _+_, _≤_, _<_}
-use mathlib.Core.Bool.{Bool, true, false, cond}
+use mathlib.Core.Bool.{true, false}
 use mathlib.Core.List.{List, [], _∷_}
 use mathlib.Core.Option.{Option, none, some, Option·getD}
 use mathlib.Core.Path.{_≡_, refl, sym, _∙_, ap, subst}
 use native.Mathlib.Omega.{arith}
-use native.Mathlib.Nat.{add-zero, add-assoc}
+use native.Mathlib.Nat.{add-zero}
 use Rattle.utf8.specs.Utf8.{charsAt, width, widths}
 use Rattle.utf8.proofs.Width.{width-some}
 use Rattle.classes.specs.Classes.{classOf}
 use Rattle.classes.specs.declared.Class.{Class}
 use Rattle.classes.specs.declared.Class.the-variants.{Upper, Lower, Caseless, Mark, Number, Whitespace, Other}
 use Rattle.pattern.specs.Regex.{holds, run}
-use Rattle.pattern.proofs.Trial.{run-step}
 use Rattle.pattern.proofs.Runs.{lastStep, lastIn}
 use Rattle.pattern.proofs.Step.{upperish, lowerish, isUpperish, isLowerish, caseEnd}
 use Rattle.pretokenize.specs.Place.{Whole, Stands}

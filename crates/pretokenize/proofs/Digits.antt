@@ -1,11 +1,11 @@
 -- A token of a run of digits, by digit mode, from the ends of the run's first characters.
-use Prim.Native.Nat.{ℕ, zero, suc, _+_, _-_, _/_, _%_, _≤_, _<_, min}
+use Prim.Native.Nat.{ℕ, zero, suc, _+_, _-_, _/_, _%_, _≤_, min}
 use mathlib.Core.Bool.{Bool}
 use mathlib.Core.List.{List, [], _∷_}
-use mathlib.Core.Path.{_≡_, refl, sym, _∙_, ap, subst}
+use mathlib.Core.Path.{_≡_, refl, sym, _∙_, ap}
 use native.Mathlib.Omega.{arith}
 use lib.ListN.{length}
-use Rattle.utf8.specs.Utf8.{chars, charsAt, width, widths}
+use Rattle.utf8.specs.Utf8.{chars, charsAt, widths}
 use Rattle.utf8.proofs.Width.{width-some}
 use Rattle.pattern.specs.Regex.{run}
 use Rattle.pattern.proofs.Step.{number, groupOf}
@@ -114,3 +114,12 @@ unfolding groupOf
 digits-high zero n m h = absurd (n refl)
 digits-high (suc zero) n m h = absurd (m refl)
 digits-high (suc (suc d)) n m h = record { len = h .len; left = h .left }
+
+-- what is no run of digits leaves no groups
+pub groups-none : (d : ℕ) {n : ℕ} → n ≡ 0 → 0 ≡ groups d n
+groups-none d e = sym (ap (groups d) e ∙ by d)
+  where
+    by : (d : ℕ) → groups d 0 ≡ 0
+    by zero = refl
+    by (suc zero) = refl
+    by (suc (suc d)) = refl

@@ -1,17 +1,17 @@
 -- The letters of a suffix: what the bytes at a place say of the characters there.
-use Prim.Native.Nat.{ℕ, _+_, _/_, _%_, _≤_, _<_}
+use Prim.Native.Nat.{ℕ, _+_, _/_, _%_, _≤_}
 use mathlib.Core.Bool.{Bool, true, false, _||_ as or, _&&_ as and}
 use mathlib.Core.List.{List, [], _∷_, _++_}
-use mathlib.Core.Path.{_≡_, refl, sym, _∙_, ap, subst}
+use mathlib.Core.Path.{_≡_, refl, sym, _∙_, ap}
 use native.Mathlib.Omega.{arith}
 use native.Mathlib.Nat.{add-zero}
 use lib.Dec.{eqb}
-use lib.ListN.{length, getD, drop, List·getD-eq-default}
+use lib.ListN.{getD, drop, List·getD-eq-default}
 use lib.Seq.{getD-drop}
 use borrow.Author.Tests.{eq-eqb, ne-eqb, eqb-true}
 use Rattle.utf8.specs.Utf8.{pick, within, decodeAt, charsAt, width, widths, encode1}
 use Rattle.utf8.specs.declared.Decoded.the-variants.{Char}
-use Rattle.utf8.proofs.Tests.{by-bool, by-le, never, in-range, below, above}
+use Rattle.utf8.proofs.Tests.{by-bool, by-le, never, in-range, above}
 use Rattle.utf8.proofs.Width.{encode-2, encode-3, encode-4, width-1}
 use Rattle.utf8.proofs.Chars.{char-is}
 use Rattle.utf8.proofs.At.{at-char, by-place, ascii-back}
@@ -19,7 +19,6 @@ use Rattle.pattern.specs.Regex.{eitherCase}
 use Rattle.pretokenize.specs.Place.{Whole, Stands}
 use Rattle.pretokenize.specs.Scan.{span}
 use Rattle.pretokenize.specs.Suffix.{lowered}
-use Rattle.pretokenize.proofs.Stands.{stands}
 use Rattle.pretokenize.proofs.Ended.{by-stands}
 use Rattle.pretokenize.proofs.Bytes.{stands-byte, stands-high}
 

@@ -10,3 +10,4 @@ pub mod White
 pub mod Digits
 pub mod Spans
 pub mod Start
+pub mod Choice

@@ -1,7 +1,7 @@
 -- The first n characters from a place on: where they end, and what follows.
 use Prim.Native.Nat.{ℕ, suc, _+_}
 use mathlib.Core.List.{List, _∷_}
-use mathlib.Core.Path.{_≡_, refl, sym, _∙_, ap}
+use mathlib.Core.Path.{_≡_, refl, _∙_, ap}
 use native.Mathlib.Omega.{arith}
 use lib.ListN.{drop, take}
 use lib.Seq.{drop-drop, take-add}

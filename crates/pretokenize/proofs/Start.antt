@@ -1,14 +1,14 @@
 -- Which scanner a token is for: what each answers from there is the closed form's token.
-use Prim.Native.Nat.{ℕ, zero, suc, _+_, _<_, _≤_}
+use Prim.Native.Nat.{ℕ, suc, _+_, _<_}
 use mathlib.Core.Bool.{Bool, true, false, cond, _&&_ as and}
 use mathlib.Core.List.{List, [], _∷_}
-use mathlib.Core.Option.{Option, none, some, Option·getD}
+use mathlib.Core.Option.{none}
 use mathlib.Core.Path.{_≡_, refl, sym, _∙_, ap, subst}
 use native.Mathlib.Omega.{arith}
 use lib.ListN.{length, drop}
 use borrow.Author.Tests.{eqb-true}
 use Rattle.utf8.specs.Utf8.{pick, chars, charsAt, width, widths}
-use Rattle.utf8.proofs.Tests.{by-bool, never}
+use Rattle.utf8.proofs.Tests.{by-bool}
 use Rattle.classes.specs.Classes.{classOf}
 use Rattle.classes.specs.declared.Class.{Class}
 use Rattle.classes.specs.declared.Class.the-variants as k
@@ -16,12 +16,12 @@ use Rattle.pattern.specs.declared.Options.{Options}
 use Rattle.pattern.specs.Regex.{holds, run}
 use Rattle.pattern.specs.Pattern.{token}
 use Rattle.pattern.proofs.Trial.{opens, run-step}
-use Rattle.pattern.proofs.Runs.{lastStep, lastIn, after}
+use Rattle.pattern.proofs.Runs.{lastIn, after}
 use Rattle.pattern.proofs.Step.{isWordy, isNumber, isPunct, isWhite, wordy, number, white, punct, newline, is, tail, caseEnd, firstFit, suffixTable, suffixEnd, wordEnd, punctEnd, spaceEnd, isEnd, keep, groupOf, stepBy, step}
 use Rattle.pattern.proofs.ClosedForm.{token-is-step, newline-white}
 use Rattle.pretokenize.specs.Place.{Whole, Stands}
 use Rattle.pretokenize.specs.Scan.{span, runWidth, suffixSpan, suffixWidth, ended, moved, turned, caseStop}
-use Rattle.pretokenize.specs.Start.{orStart, prefixedStart, spaceBefore, spaceStart, afterSpace, firstStart, startOf}
+use Rattle.pretokenize.specs.Start.{orStart, prefixedStart, spaceStart, afterSpace, firstStart, startOf}
 use Rattle.pretokenize.specs.declared.o200k_family.CaseState.{CaseState}
 use Rattle.pretokenize.specs.declared.o200k_family.CaseState.the-variants.{U}
 use Rattle.pretokenize.specs.declared.o200k_family.Turn.{Turn}
@@ -92,7 +92,7 @@ Leads o s (start.Number f) = (ended number 0 (chars s) ≡ At f) × (token o (ch
 Leads o s start.One = (1 ≡ span (token o (chars s)) (chars s)) × (run number (chars s) ≡ 0)
 
 -- a letter run is entered just where a letter or a mark opens it
-stop-go : {P : Type 0} {f : ℕ} {st : CaseState} → Stop ≡ Go f st → P
+pub stop-go : {P : Type 0} {f : ℕ} {st : CaseState} → Stop ≡ Go f st → P
 stop-go q = absurd (let z : _≡_ {A = ℕ} 0 1 = cc in omega arith)
 
 enters : (at : ℕ) (cs : List ℕ) {f : ℕ} {st : CaseState} → turned (U 0) at cs ≡ Go f st → opens wordy cs ≡ true
@@ -109,19 +109,19 @@ enters at (c ∷ cs) q = by (classOf c) (at + width c) q
     by k.Whitespace e q = stop-go q
     by k.Other e q = stop-go q
 
+pub wordy-stop : (j : Class) (e : ℕ) → moved j (U 0) e ≡ Stop → isWordy j ≡ false
+wordy-stop k.Upper e q = stop-go (sym q)
+wordy-stop k.Lower e q = stop-go (sym q)
+wordy-stop k.Caseless e q = stop-go (sym q)
+wordy-stop k.Mark e q = stop-go (sym q)
+wordy-stop k.Number e q = refl
+wordy-stop k.Whitespace e q = refl
+wordy-stop k.Other e q = refl
+
 leaves : (at : ℕ) (cs : List ℕ) → turned (U 0) at cs ≡ Stop → opens wordy cs ≡ false
 unfolding turned opens wordy
 leaves at [] q = refl
-leaves at (c ∷ cs) q = by (classOf c) (at + width c) q
-  where
-    by : (j : Class) (e : ℕ) → moved j (U 0) e ≡ Stop → isWordy j ≡ false
-    by k.Upper e q = stop-go (sym q)
-    by k.Lower e q = stop-go (sym q)
-    by k.Caseless e q = stop-go (sym q)
-    by k.Mark e q = stop-go (sym q)
-    by k.Number e q = refl
-    by k.Whitespace e q = refl
-    by k.Other e q = refl
+leaves at (c ∷ cs) q = wordy-stop (classOf c) (at + width c) q
 
 and-false : (b : Bool) → and b false ≡ false
 and-false true = refl

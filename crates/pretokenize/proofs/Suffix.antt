@@ -14,7 +14,7 @@ use Rattle.utf8.proofs.Tests.{by-bool, both, never}
 use Rattle.classes.proofs.Scan.{row-front}
 use Rattle.pattern.specs.Regex.{spells}
 use Rattle.pattern.proofs.Step.{firstFit, suffixTable}
-use Rattle.pretokenize.specs.Place.{Whole, Stands, StandsAscii}
+use Rattle.pretokenize.specs.Place.{Whole, StandsAscii}
 use Rattle.pretokenize.specs.Scan.{span, suffixSpan, suffixWidth}
 use Rattle.pretokenize.proofs.Ended.{by-stands, span-room}
 use Rattle.pretokenize.proofs.Bytes.{stands-byte}

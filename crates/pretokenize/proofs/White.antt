@@ -7,7 +7,7 @@ use mathlib.Core.Path.{_≡_, refl, sym, _∙_, ap}
 use native.Mathlib.Omega.{arith}
 use native.Mathlib.Nat.{add-zero, zero-add, add-assoc}
 use lib.Dec.{eqb}
-use lib.ListN.{length, getD, take, drop}
+use lib.ListN.{length, getD, drop}
 use borrow.Author.Tests.{eq-eqb, ne-eqb}
 use Rattle.utf8.specs.Utf8.{pick, charsAt, width, widths}
 use Rattle.utf8.proofs.Tests.{by-bool}

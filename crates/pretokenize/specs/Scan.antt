@@ -9,6 +9,8 @@ use Rattle.utf8.specs.Utf8.{pick, width, widths}
 use Rattle.classes.specs.Classes.{classOf, asciiIs}
 use Rattle.classes.specs.declared.Class.{Class}
 use Rattle.classes.specs.declared.Class.the-variants.{Upper, Lower, Caseless, Mark, Number, Whitespace, Other}
+use Rattle.pattern.specs.declared.Options.{Options}
+use Rattle.pattern.specs.Pattern.{token}
 use Rattle.pattern.specs.Regex.{run}
 use Rattle.pattern.proofs.Runs.{lastIn}
 use Rattle.pattern.proofs.Step.{upperish, lowerish, number, groupOf, firstFit, suffixTable}
@@ -97,3 +99,8 @@ alignedEnd first second third (suc (suc k)) = second
 pub record Digits (mode : ℕ) (cs : List ℕ) (length rest : ℕ) : Type 0 where
   pub len : length ≡ span (groupOf mode (run number cs)) cs
   pub left : rest ≡ groups mode (run number cs)
+
+-- THE TOKEN in front of some characters: how many bytes it has, and the groups of three that it leaves of a run of digits
+pub record Advanced (o : Options) (cs : List ℕ) (length rest : ℕ) : Type 0 where
+  pub len : length ≡ span (token o cs) cs
+  pub left : rest ≡ groups (o .digits) (run number cs)

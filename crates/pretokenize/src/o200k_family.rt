@@ -14,14 +14,15 @@ use pattern::Options;
 ghost use mathlib.Core.Path.{_≡_};
 ghost use Prim.Native.Nat.{_+_, _/_, _%_, _^_, _≤_, _<_, min};
 ghost use lib.ListN.{length, getD};
-ghost use Rattle.utf8.specs.Utf8.{pick, chars, charsAt, decodeAt};
+ghost use Rattle.utf8.specs.Utf8.{pick, chars, charsAt, decodeAt, width};
 ghost use Rattle.utf8.specs.declared.Decoded.the-variants.{Char};
 ghost use Rattle.classes.specs.Classes.{classOf, rank};
 ghost use Rattle.classes.specs.declared.Class.the-variants.{Upper as UpperClass, Caseless as CaselessClass};
 ghost use Rattle.pattern.specs.Regex.{run};
 ghost use Rattle.pattern.proofs.Step.{isNumber, isPunct, isWhite, newline, number, punct, spaceEnd, tail, white};
 ghost use Rattle.pretokenize.specs.Place.{Whole, Ready, Beyond, Peeks};
-ghost use Rattle.pretokenize.specs.Scan.{span, runWidth, suffixWidth, ended, asciiState, moved, turned, finish, caseStop, whiteStop, alignedEnd, Digits};
+ghost use Rattle.pretokenize.specs.Scan.{span, runWidth, suffixWidth, ended, asciiState, moved, turned, finish, caseStop, whiteStop, alignedEnd, Digits, Advanced};
+ghost use Rattle.pretokenize.specs.Start.{orStart, prefixedStart, spaceBefore, spaceStart, afterSpace, firstStart, startOf};
 ghost use Rattle.pretokenize.specs.Suffix.{lowered, rowFits, firstRow, suffixRows};
 
 // A character outside ASCII, by its scalar value and its width.
@@ -601,4 +602,157 @@ fn digit_token_end(t: &Table, bytes: &[u8], first_end: usize, digits: u8) -> Adv
         };
     }
     right_aligned_digit_end(t, bytes, first_end)
+}
+
+fn letters_or(m: Turn, other: Start) -> Start
+    ensures { λ r. ⌜ r ≡ orStart m other ⌝ }
+{
+    match m {
+        Turn::Go(e, st) => Start::Letters(e, st),
+        Turn::Stop => other,
+    }
+}
+
+// Past a prefix that ends at a place: a letter run, or what the prefix is by itself.
+fn prefixed_start(t: &Table, bytes: &[u8], pos: usize, blank: bool) -> Start
+    requires { ⌜ Ready (now t) (now bytes) pos ⌝ }
+    ensures { λ r. ⌜ r ≡ prefixedStart blank pos (charsAt (now (bytes .entry)) pos) ⌝ }
+{
+    let m = letter_run_first(t, bytes, pos);
+    if blank {
+        return letters_or(m, Start::White);
+    }
+    letters_or(m, Start::Punct(pos))
+}
+
+// Past a space, before a character of a class that ends at a place and opens no letter run.
+fn space_before(k: Class, end: usize) -> Start
+    ensures { λ r. ⌜ r ≡ spaceBefore k end ⌝ }
+{
+    match k {
+        Class::Upper => Start::Punct(end),
+        Class::Lower => Start::Punct(end),
+        Class::Caseless => Start::Punct(end),
+        Class::Mark => Start::Punct(end),
+        Class::Number => Start::One,
+        Class::Whitespace => Start::White,
+        Class::Other => Start::Punct(end),
+    }
+}
+
+fn space_wide(k: Class, end: usize) -> Start
+    ensures { λ r. ⌜ r ≡ spaceStart k end ⌝ }
+{
+    let m = case_moved(k, CaseState::U { last_cl_end: 0 }, end);
+    letters_or(m, space_before(k, end))
+}
+
+fn space_ascii(b: u8) -> Start
+    requires { ⌜ b < 0x80 ⌝ }
+    ensures { λ r. ⌜ r ≡ spaceStart (classOf b) 2 ⌝ }
+{
+    if is_letter(b) {
+        return Start::Letters(2, ascii_letter_state(b));
+    }
+    if is_digit(b) {
+        return Start::One;
+    }
+    if is_ascii_ws(b) {
+        return Start::White;
+    }
+    Start::Punct(2)
+}
+
+// Past a space in front.
+fn after_space(t: &Table, bytes: &[u8]) -> Start
+    requires { ⌜ Ready (now t) (now bytes) 1 ⌝ }
+    ensures { λ r. ⌜ r ≡ afterSpace (charsAt (now (bytes .entry)) 1) ⌝ }
+{
+    let p = peek_at(t, bytes, 1);
+    match p {
+        Peek::Nothing => Start::One,
+        Peek::Ascii(b) => space_ascii(b),
+        Peek::Wide(_, e, k) => space_wide(k, e),
+    }
+}
+
+// A token that begins with an ASCII byte.
+fn ascii_start(t: &Table, bytes: &[u8], b: u8) -> Start
+    requires { ⌜ Ready (now t) (now bytes) 1 ⌝ }
+    requires { ⌜ b < 0x80 ⌝ }
+    ensures { λ r. ⌜ r ≡ firstStart (classOf b) b (charsAt (now (bytes .entry)) 1) ⌝ }
+{
+    if is_letter(b) {
+        return Start::Letters(1, ascii_letter_state(b));
+    }
+    if b == b' ' {
+        return after_space(t, bytes);
+    }
+    if is_digit(b) {
+        return Start::Number(1);
+    }
+    if is_newline(b) {
+        return Start::White;
+    }
+    prefixed_start(t, bytes, 1, is_ascii_ws(b))
+}
+
+// A token that begins with a character outside ASCII, which ends at a place.
+fn wide_start(t: &Table, bytes: &[u8], cp: u32, end: usize, k: Class) -> Start
+    requires { ⌜ Ready (now t) (now bytes) end ⌝ }
+    requires { ⌜ (0x80 ≤ cp) × (end ≡ width cp) × (k ≡ classOf cp) ⌝ }
+    ensures { λ r. ⌜ r ≡ firstStart (classOf cp) cp (charsAt (now (bytes .entry)) end) ⌝ }
+{
+    let m = case_moved(k, CaseState::U { last_cl_end: 0 }, end);
+    match m {
+        Turn::Go(e, st) => Start::Letters(e, st),
+        Turn::Stop => {
+            if is_number(k) {
+                return Start::Number(end);
+            }
+            prefixed_start(t, bytes, end, is_white(k))
+        }
+    }
+}
+
+// Which scanner the token in front is for, from where and in which state.
+fn start_of(t: &Table, bytes: &[u8]) -> Start
+    requires { ⌜ Ready (now t) (now bytes) 0 ⌝ }
+    ensures { λ r. ⌜ r ≡ startOf (chars (now (bytes .entry))) ⌝ }
+{
+    let p = peek_at(t, bytes, 0);
+    match p {
+        Peek::Nothing => Start::One,
+        Peek::Ascii(b) => ascii_start(t, bytes, b),
+        Peek::Wide(cp, e, k) => wide_start(t, bytes, cp, e, k),
+    }
+}
+
+// The token in front of some checked text: its length, and the groups that it leaves of a run of digits.
+pub(crate) fn advance_pos(t: &Table, bytes: &[u8], o: Options) -> Advance
+    requires { ⌜ Ready (now t) (now bytes) 0 ⌝ }
+    requires { ⌜ 0 < length (now bytes) ⌝ }
+    ensures { λ r. ⌜ Advanced o (chars (now (bytes .entry))) (r .len) (r .groups) ⌝ }
+{
+    let s = start_of(t, bytes);
+    match s {
+        Start::Letters(e, st) => {
+            let end = scan_case_run(t, bytes, e, st);
+            plain(try_suffix(bytes, end, o.contractions))
+        }
+        Start::Punct(e) => {
+            let end = scan_punct_from(t, bytes, e);
+            plain(scan_tail(bytes, end, o.slash))
+        }
+        Start::White => plain(ws_token_end(t, bytes)),
+        Start::Number(e) => digit_token_end(t, bytes, e, o.digits),
+        Start::One => plain(1),
+    }
+}
+
+// A token that is no run of digits.
+fn plain(len: usize) -> Advance
+    ensures { λ r. ⌜ (r .len ≡ len) × (r .groups ≡ 0) ⌝ }
+{
+    Advance { len, groups: 0 }
 }

@@ -1,6 +1,6 @@
 -- `pretokenize::o200k_family::case_turn` meets its contract: of an ASCII byte the byte tests tell, of any other character its class.
 -- Assumes nothing.
-use mathlib.Core.Path.{refl, ap, _∙_, subst}
+use mathlib.Core.Path.{refl, _∙_, subst}
 use native.Mathlib.Omega.{arith}
 use borrow.Author.Needs.{needs}
 use Rattle.pretokenize.specs.Place.{Peeks}

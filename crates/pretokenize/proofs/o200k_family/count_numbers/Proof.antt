@@ -1,7 +1,7 @@
 -- `pretokenize::o200k_family::count_numbers` meets its contract: what was counted and the run from there on are the run.
 -- Assumes nothing.
 use Prim.Native.Nat.{_+_, _-_, _≤_}
-use mathlib.Core.Path.{_≡_, refl, sym, _∙_}
+use mathlib.Core.Path.{_≡_, sym, _∙_}
 use native.Mathlib.Omega.{arith}
 use borrow.Author.Needs.{needs}
 use Rattle.utf8.specs.Utf8.{charsAt}

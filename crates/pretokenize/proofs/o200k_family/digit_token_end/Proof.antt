@@ -1,6 +1,6 @@
 -- `pretokenize::o200k_family::digit_token_end` meets its contract: by digit mode.
 -- Assumes nothing.
-use mathlib.Core.Path.{_≡_, refl, subst, sym}
+use mathlib.Core.Path.{subst, sym}
 use borrow.Author.Needs.{needs}
 use Rattle.utf8.specs.Utf8.{chars}
 use Rattle.pretokenize.specs.Scan.{Digits}

@@ -1,11 +1,10 @@
 -- `pretokenize::o200k_family::right_aligned_digit_end` meets its contract: by whether a second and a third number follow.
 -- Assumes nothing.
-use mathlib.Core.Path.{_≡_, sym, ap, _∙_}
+use mathlib.Core.Path.{sym, ap, _∙_}
 use Prim.Native.Nat.{_+_, _/_, _%_}
 use native.Mathlib.Omega.{arith}
 use borrow.Author.Needs.{needs}
 use Rattle.pattern.proofs.Step.{number}
-use Rattle.pretokenize.specs.Place.{Whole}
 use Rattle.pretokenize.specs.Scan.{alignedEnd}
 use Rattle.pretokenize.proofs.Ended.{Went, goes}
 use Rattle.pretokenize.proofs.Digits.{begun, run-room, right-one, right-two, right-more}

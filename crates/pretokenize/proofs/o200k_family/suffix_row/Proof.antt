@@ -1,10 +1,9 @@
 -- `pretokenize::o200k_family::suffix_row` meets its contract: the rows from `i` on say what all of them say.
 -- Assumes nothing.
-use Prim.Native.Nat.{_+_, _-_, _%_, _≤_}
+use Prim.Native.Nat.{_-_, _%_, _≤_}
 use mathlib.Core.Path.{_≡_, refl, sym, _∙_}
 use native.Mathlib.Omega.{arith}
 use borrow.Author.Needs.{needs}
-use lib.ListN.{length}
 use Rattle.pretokenize.specs.Suffix.{firstRow, suffixRows}
 use Rattle.pretokenize.proofs.Suffix.{row-small, rowFrom, row-here, row-next}
 use Rattle.pretokenize.proofs.o200k_family.suffix_row.Statement.{statement}

@@ -1,6 +1,5 @@
 -- `pretokenize::o200k_family::try_suffix` meets its contract: with contractions on and an apostrophe in front the rows say what the table says (`suffix-fits`).
 -- Assumes nothing.
-use Prim.Native.Nat.{_+_}
 use mathlib.Core.Path.{_≡_, sym, ap, ap₂, _∙_}
 use native.Mathlib.Omega.{arith}
 use borrow.Author.Needs.{needs}

@@ -4,7 +4,6 @@ use Prim.Native.Nat.{_-_}
 use mathlib.Core.Path.{_≡_, refl, sym, ap, _∙_}
 use native.Mathlib.Omega.{arith}
 use borrow.Author.Needs.{needs}
-use lib.Dec.{eqb}
 use Rattle.utf8.specs.Utf8.{pick, chars, charsAt}
 use lib.ListN.{length}
 use Rattle.pattern.proofs.Step.{white, newline}
