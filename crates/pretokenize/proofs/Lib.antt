@@ -11,3 +11,4 @@ pub mod Digits
 pub mod Spans
 pub mod Start
 pub mod Choice
+pub mod Groups

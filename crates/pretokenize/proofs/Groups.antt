@@ -1,0 +1,71 @@
+-- Past the first token of a run of digits grouped from the right the run is a multiple of three: the next token is three, and one group less is left.
+use Prim.Native.Nat.{ℕ, zero, suc, _+_, _-_, _*_, _/_, _%_, _≤_}
+use mathlib.Core.Bool.{Bool, true, false, cond}
+use mathlib.Core.List.{List, [], _∷_}
+use mathlib.Core.Path.{_≡_, refl, sym, _∙_, ap}
+use native.Mathlib.Omega.{arith}
+use lib.ListN.{drop}
+use Rattle.utf8.proofs.Tests.{by-bool, never}
+use Rattle.classes.specs.Classes.{classOf, same}
+use Rattle.classes.specs.declared.Class.{Class}
+use Rattle.classes.specs.declared.Class.the-variants as k
+use Rattle.pattern.specs.declared.Options.{Options}
+use Rattle.pattern.specs.Regex.{holds, run}
+use Rattle.pattern.specs.Pattern.{token}
+use Rattle.pattern.proofs.Trial.{run-step}
+use Rattle.pattern.proofs.Step.{number, isNumber, groupOf, stepBy, step}
+use Rattle.pattern.proofs.ClosedForm.{token-is-step}
+use Rattle.pretokenize.specs.Scan.{groups}
+
+run-nil : (p : ℕ → Bool) → run p [] ≡ 0
+unfolding run
+run-nil p = refl
+
+-- the run that is left past n of it
+run-drop : (p : ℕ → Bool) (n : ℕ) (cs : List ℕ) → n ≤ run p cs → n + run p (drop n cs) ≡ run p cs
+run-drop p zero cs h = omega arith
+run-drop p (suc n) [] h = absurd (omega (arith, run-nil p))
+run-drop p (suc n) (c ∷ cs) h = by-bool (p c)
+    (λ t. let e : run p (c ∷ cs) ≡ suc (run p cs) = run-step p c cs ∙ ap (λ b. cond b (suc (run p cs)) 0) t in omega (arith, run-drop p n cs (omega arith)))
+    (λ t. let e : run p (c ∷ cs) ≡ 0 = run-step p c cs ∙ ap (λ b. cond b (suc (run p cs)) 0) t in absurd (omega arith))
+
+number-is : (j : Class) → isNumber j ≡ true → j ≡ k.Number
+number-is k.Upper e = never (sym e)
+number-is k.Lower e = never (sym e)
+number-is k.Caseless e = never (sym e)
+number-is k.Mark e = never (sym e)
+number-is k.Number e = refl
+number-is k.Whitespace e = never (sym e)
+number-is k.Other e = never (sym e)
+
+-- a token of a run of digits
+number-token : (o : Options) (cs : List ℕ) → 1 ≤ run number cs → token o cs ≡ groupOf (o .digits) (run number cs)
+unfolding step stepBy holds
+number-token o [] h = absurd (omega (arith, run-nil number))
+number-token o (c ∷ cs) h = by-bool (number c)
+    (λ t. token-is-step o (c ∷ cs) ∙ ap (λ j. stepBy o j c cs) (number-is (classOf c) t) ∙ ap (groupOf (o .digits)) (sym (run-step number c cs ∙ ap (λ b. cond b (suc (run number cs)) 0) t)))
+    (λ t. let e : run number (c ∷ cs) ≡ 0 = run-step number c cs ∙ ap (λ b. cond b (suc (run number cs)) 0) t in absurd (omega arith))
+
+pub record NextGroup (o : Options) (cs : List ℕ) (rest : ℕ) : Type 0 where
+  pub three : token o cs ≡ 3
+  pub enough : 3 ≤ run number cs
+  pub left : groups (o .digits) (run number cs) ≡ rest
+
+-- THE GROUPS that a token leaves
+pub next-group : (o : Options) (cs : List ℕ) (g : ℕ) → groups (o .digits) (run number cs) ≡ suc g → NextGroup o (drop (token o cs) cs) g
+unfolding groupOf
+next-group o cs g q = by (o .digits) refl q
+  where
+    by : (d : ℕ) → o .digits ≡ d → groups d (run number cs) ≡ suc g → NextGroup o (drop (token o cs) cs) g
+    by zero m q = absurd (omega arith)
+    by (suc zero) m q = absurd (omega arith)
+    by (suc (suc d)) m q =
+        let n = run number cs in
+        let t : token o cs ≡ (n - 1) % 3 + 1 = number-token o cs (omega arith) ∙ ap (λ d. groupOf d n) m in
+        let r = run-drop number (token o cs) cs (omega arith) in
+        let ds = drop (token o cs) cs in
+        record {
+          three = number-token o ds (omega arith) ∙ ap (λ d. groupOf d (run number ds)) m ∙ omega arith;
+          enough = omega arith;
+          left = ap (λ d. groups d (run number ds)) m ∙ omega arith;
+        }
