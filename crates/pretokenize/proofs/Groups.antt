@@ -1,12 +1,12 @@
 -- Past the first token of a run of digits grouped from the right the run is a multiple of three: the next token is three, and one group less is left.
-use Prim.Native.Nat.{ℕ, zero, suc, _+_, _-_, _*_, _/_, _%_, _≤_}
-use mathlib.Core.Bool.{Bool, true, false, cond}
+use Prim.Native.Nat.{ℕ, zero, suc, _+_, _-_, _%_, _≤_}
+use mathlib.Core.Bool.{Bool, true, cond}
 use mathlib.Core.List.{List, [], _∷_}
 use mathlib.Core.Path.{_≡_, refl, sym, _∙_, ap}
 use native.Mathlib.Omega.{arith}
 use lib.ListN.{drop}
 use Rattle.utf8.proofs.Tests.{by-bool, never}
-use Rattle.classes.specs.Classes.{classOf, same}
+use Rattle.classes.specs.Classes.{classOf}
 use Rattle.classes.specs.declared.Class.{Class}
 use Rattle.classes.specs.declared.Class.the-variants as k
 use Rattle.pattern.specs.declared.Options.{Options}

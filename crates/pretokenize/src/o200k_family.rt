@@ -544,23 +544,28 @@ fn right_aligned_digit_end(t: &Table, bytes: &[u8], first_end: usize) -> Advance
 {
     let d = number_end(t, bytes, first_end);
     match d {
+        Ended::At(second) => right_past_two(t, bytes, first_end, second),
         Ended::No => Advance {
             len: first_end,
             groups: 0,
         },
-        Ended::At(second) => {
-            let f = number_end(t, bytes, second);
-            match f {
-                Ended::No => Advance {
-                    len: second,
-                    groups: 0,
-                },
-                Ended::At(third) => {
-                    let more = count_numbers(t, bytes, third);
-                    aligned(first_end, second, third, more)
-                }
-            }
-        }
+    }
+}
+
+// The same of a run of two or more, which end at `first` and `second`.
+fn right_past_two(t: &Table, bytes: &[u8], first: usize, second: usize) -> Advance
+    requires { ⌜ Ready (now t) (now bytes) 0 ⌝ }
+    requires { ⌜ ended number 0 (chars (now bytes)) ≡ Ended.At first ⌝ }
+    requires { ⌜ ended number first (charsAt (now bytes) first) ≡ Ended.At second ⌝ }
+    ensures { λ r. ⌜ Digits 2 (chars (now (bytes .entry))) (r .len) (r .groups) ⌝ }
+{
+    let d = number_end(t, bytes, second);
+    match d {
+        Ended::At(third) => aligned(first, second, third, count_numbers(t, bytes, third)),
+        Ended::No => Advance {
+            len: second,
+            groups: 0,
+        },
     }
 }
 
