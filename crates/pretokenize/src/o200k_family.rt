@@ -20,7 +20,7 @@ ghost use Rattle.classes.specs.Classes.{classOf, rank};
 ghost use Rattle.classes.specs.declared.Class.the-variants.{Upper as UpperClass, Caseless as CaselessClass};
 ghost use Rattle.pattern.specs.Regex.{run};
 ghost use Rattle.pattern.proofs.Step.{isNumber, isPunct, isWhite, newline, number, punct, spaceEnd, tail, white};
-ghost use Rattle.pretokenize.specs.Place.{Whole, Ready, Beyond, Peeks};
+ghost use Rattle.pretokenize.specs.Place.{Whole, Ready, Beyond, StandsWide, Peeks};
 ghost use Rattle.pretokenize.specs.Scan.{span, runWidth, suffixWidth, ended, asciiState, moved, turned, finish, caseStop, whiteStop, alignedEnd, Digits, Advanced};
 ghost use Rattle.pretokenize.specs.Start.{orStart, prefixedStart, spaceBefore, spaceStart, afterSpace, firstStart, startOf};
 ghost use Rattle.pretokenize.specs.Suffix.{lowered, rowFits, firstRow, suffixRows};
@@ -29,6 +29,13 @@ ghost use Rattle.pretokenize.specs.Suffix.{lowered, rowFits, firstRow, s
 struct CodePoint {
     cp: u32,
     len: usize,
+}
+
+// The same by its scalar value, its end and its class.
+struct Seen {
+    cp: u32,
+    end: usize,
+    class: Class,
 }
 
 // What stands at a place: nothing; an ASCII byte; a character outside ASCII, with its scalar value, its end and its class.
@@ -133,6 +140,22 @@ fn decode_cp(bytes: &[u8], pos: usize) -> CodePoint
     }
 }
 
+// The character outside ASCII at a place. It is called from two places, so that the compiler keeps it apart and has the ASCII
+// side of `peek_at` in every scanner.
+fn wide_at(t: &Table, bytes: &[u8], pos: usize) -> Seen
+    requires { ⌜ Ready (now t) (now bytes) pos ⌝ }
+    requires { ⌜ Beyond (now bytes) pos ⌝ }
+    ensures { λ r. ⌜ (StandsWide (now (bytes .entry)) pos (r .cp) (r .end)) × (r .class ≡ classOf (r .cp)) ⌝ }
+{
+    let c = decode_cp(bytes, pos);
+    let cp = c.cp;
+    Seen {
+        cp,
+        end: pos + c.len,
+        class: class_at(t, cp),
+    }
+}
+
 // What stands at a place of checked text.
 fn peek_at(t: &Table, bytes: &[u8], pos: usize) -> Peek
     requires { ⌜ Ready (now t) (now bytes) pos ⌝ }
@@ -145,9 +168,9 @@ fn peek_at(t: &Table, bytes: &[u8], pos: usize) -> Peek
     if b < 0x80 {
         return Peek::Ascii(b);
     }
-    let c = decode_cp(bytes, pos);
-    let cp = c.cp;
-    Peek::Wide(cp, pos + c.len, class_at(t, cp))
+    let c = wide_at(t, bytes, pos);
+    let k = c.class;
+    Peek::Wide(c.cp, c.end, k)
 }
 
 fn is_newline(b: u8) -> bool
@@ -673,12 +696,16 @@ fn after_space(t: &Table, bytes: &[u8]) -> Start
     requires { ⌜ Ready (now t) (now bytes) 1 ⌝ }
     ensures { λ r. ⌜ r ≡ afterSpace (charsAt (now (bytes .entry)) 1) ⌝ }
 {
-    let p = peek_at(t, bytes, 1);
-    match p {
-        Peek::Nothing => Start::One,
-        Peek::Ascii(b) => space_ascii(b),
-        Peek::Wide(_, e, k) => space_wide(k, e),
+    if bytes.len() <= 1 {
+        return Start::One;
     }
+    let b = bytes[1];
+    if b < 0x80 {
+        return space_ascii(b);
+    }
+    let c = wide_at(t, bytes, 1);
+    let k = c.class;
+    space_wide(k, c.end)
 }
 
 // A token that begins with an ASCII byte.
