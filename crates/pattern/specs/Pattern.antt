@@ -14,9 +14,11 @@ abbrev pub chars : String → List Item
 chars []ˢ = []
 chars (a ∷ˢ s) = char a ∷ chars s
 
+-- not CR, LF, letter or Number
 abbrev pub prefix : Set
 prefix = except (chars "\r\n" ++ (letter ∷ kind Number ∷ []))
 
+-- Upper, Caseless, Mark; Lower, Caseless, Mark
 abbrev pub upperish : Set
 upperish = among (kind Upper ∷ kind Caseless ∷ kind Mark ∷ [])
 
@@ -60,15 +62,16 @@ tail false = newline
 abbrev pub white : Set
 white = just (kind Whitespace)
 
+-- document 01's alternatives, by their numbers
 abbrev pub alternatives : Options → List (List Piece)
 alternatives o =
-    (opt prefix ∷ many upperish ∷ some lowerish ∷ suffix (o .contractions)) ∷
-    (opt prefix ∷ some upperish ∷ many lowerish ∷ suffix (o .contractions)) ∷
-    (digits (o .digits) ∷ []) ∷
-    (opt space ∷ some punct ∷ many (tail (o .slash)) ∷ []) ∷
-    (many white ∷ some newline ∷ []) ∷
-    (some white ∷ notAhead (just nonWhite) ∷ []) ∷
-    (some white ∷ []) ∷
+    (opt prefix ∷ many upperish ∷ some lowerish ∷ suffix (o .contractions)) ∷  -- 1
+    (opt prefix ∷ some upperish ∷ many lowerish ∷ suffix (o .contractions)) ∷  -- 2
+    (digits (o .digits) ∷ []) ∷  -- 3
+    (opt space ∷ some punct ∷ many (tail (o .slash)) ∷ []) ∷  -- 4
+    (many white ∷ some newline ∷ []) ∷  -- 5
+    (some white ∷ notAhead (just nonWhite) ∷ []) ∷  -- 6
+    (some white ∷ []) ∷  -- 7
     []
 
 -- how many characters the first token has

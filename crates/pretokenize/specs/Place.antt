@@ -1,4 +1,5 @@
--- What the scanners ask of a place of a text, and what a peek says of it.
+-- What the scanners ask of a place of a text, and what a look at it says.
+-- Cited by contracts that are private to the crate; nobody has to believe it.
 use mathlib.Core.List.{List, [], _∷_}
 use mathlib.Core.Path.{_≡_}
 use Prim.Native.Nat.{ℕ, _+_, _≤_, _<_}

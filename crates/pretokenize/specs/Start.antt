@@ -1,4 +1,5 @@
 -- Which scanner a token is for, from where and in which state, by its first characters.
+-- Cited by contracts that are private to the crate; nobody has to believe it.
 use mathlib.Core.Bool.{Bool, true, false}
 use mathlib.Core.List.{List, [], _∷_}
 use Prim.Native.Nat.{ℕ, _+_}

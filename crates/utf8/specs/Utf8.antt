@@ -24,7 +24,7 @@ within a b z = pick (leb a b) (leb b z) false
 abbrev pub scalar : ℕ → Bool
 scalar c = pick (leb c 0xd7ff) true (within 0xe000 c 0x10ffff)
 
--- the nine ranges of lead bytes: the length, and the second byte's range where it is not 80 to BF for the whole length
+-- the nine ranges of lead bytes: how many bytes, and of three and four the second byte's range; of two it is 80 to BF
 unfoldable pub leadOf : ℕ → Lead
 leadOf b =
     pick (within 0x00 b 0x7f) One
