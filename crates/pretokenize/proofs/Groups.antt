@@ -1,5 +1,5 @@
 -- Past the first token of a run of digits grouped from the right the run is a multiple of three: the next token is three, and one group less is left.
-use Prim.Native.Nat.{ℕ, zero, suc, _+_, _-_, _%_, _≤_}
+use Prim.Native.Nat.{ℕ, zero, suc, _+_, _-_, _%_, _<_, _≤_}
 use mathlib.Core.Bool.{Bool, true, cond}
 use mathlib.Core.List.{List, [], _∷_}
 use mathlib.Core.Path.{_≡_, refl, sym, _∙_, ap}
@@ -15,7 +15,7 @@ use Rattle.pattern.specs.Pattern.{token}
 use Rattle.pattern.proofs.Trial.{run-step}
 use Rattle.pattern.proofs.Step.{number, isNumber, groupOf, stepBy, step}
 use Rattle.pattern.proofs.ClosedForm.{token-is-step}
-use Rattle.pretokenize.specs.Scan.{groups}
+use Rattle.pretokenize.specs.Scan.{span, groups, NextGroup, Known, Advanced}
 
 run-nil : (p : ℕ → Bool) → run p [] ≡ 0
 unfolding run
@@ -46,11 +46,6 @@ number-token o (c ∷ cs) h = by-bool (number c)
     (λ t. token-is-step o (c ∷ cs) ∙ ap (λ j. stepBy o j c cs) (number-is (classOf c) t) ∙ ap (groupOf (o .digits)) (sym (run-step number c cs ∙ ap (λ b. cond b (suc (run number cs)) 0) t)))
     (λ t. let e : run number (c ∷ cs) ≡ 0 = run-step number c cs ∙ ap (λ b. cond b (suc (run number cs)) 0) t in absurd (omega arith))
 
-pub record NextGroup (o : Options) (cs : List ℕ) (rest : ℕ) : Type 0 where
-  pub three : token o cs ≡ 3
-  pub enough : 3 ≤ run number cs
-  pub left : groups (o .digits) (run number cs) ≡ rest
-
 -- THE GROUPS that a token leaves
 pub next-group : (o : Options) (cs : List ℕ) (g : ℕ) → groups (o .digits) (run number cs) ≡ suc g → NextGroup o (drop (token o cs) cs) g
 unfolding groupOf
@@ -69,3 +64,15 @@ next-group o cs g q = by (o .digits) refl q
           enough = omega arith;
           left = ap (λ d. groups d (run number ds)) m ∙ omega arith;
         }
+
+-- what a token leaves is known of what comes after it
+pub leaves-known : (o : Options) (cs : List ℕ) {l g : ℕ} → Advanced o cs l g → Known o (drop (token o cs) cs) g
+leaves-known o cs {l} {g} a h = next-group o cs (g - 1) (sym (a .left) ∙ omega arith)
+
+-- a whole group is what digit mode 1 takes
+pub known-token : (o : Options) (cs : List ℕ) {l r g : ℕ} → Known o cs g → 0 < g → Advanced (record { contractions = o .contractions; digits = 1; slash = o .slash }) cs l r → Advanced o cs l (g - 1)
+unfolding groupOf
+known-token o cs {l} {r} {g} k h a =
+    let n = k h in
+    let t : token (record { contractions = o .contractions; digits = 1; slash = o .slash }) cs ≡ 3 = number-token _ cs (omega (arith, n .enough)) ∙ omega (arith, n .enough) in
+    record { len = a .len ∙ ap (λ m. span m cs) (t ∙ sym (n .three)); left = sym (n .left) }

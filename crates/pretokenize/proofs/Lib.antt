@@ -12,3 +12,7 @@ pub mod Spans
 pub mod Start
 pub mod Choice
 pub mod Groups
+pub mod Checks
+pub mod Part
+pub mod Filling
+pub mod Unique

@@ -3,7 +3,7 @@ use mathlib.Core.Bool.{Bool, true, false}
 use mathlib.Core.List.{List, [], _∷_}
 use mathlib.Core.Option.{Option, none, some}
 use mathlib.Core.Path.{_≡_}
-use Prim.Native.Nat.{ℕ, zero, suc, _+_, _-_, _/_}
+use Prim.Native.Nat.{ℕ, zero, suc, _+_, _-_, _/_, _<_, _≤_}
 use lib.ListN.{take}
 use Rattle.utf8.specs.Utf8.{pick, width, widths}
 use Rattle.classes.specs.Classes.{classOf, asciiIs}
@@ -104,3 +104,12 @@ pub record Digits (mode : ℕ) (cs : List ℕ) (length rest : ℕ) : Type 0 wher
 pub record Advanced (o : Options) (cs : List ℕ) (length rest : ℕ) : Type 0 where
   pub len : length ≡ span (token o cs) cs
   pub left : rest ≡ groups (o .digits) (run number cs)
+
+-- some digits that are known to stand in front in whole groups of three: the token is one of them
+pub record NextGroup (o : Options) (cs : List ℕ) (rest : ℕ) : Type 0 where
+  pub three : token o cs ≡ 3
+  pub enough : 3 ≤ run number cs
+  pub left : groups (o .digits) (run number cs) ≡ rest
+
+abbrev pub Known : Options → List ℕ → ℕ → Type 0
+Known o cs g = 0 < g → NextGroup o cs (g - 1)

@@ -276,7 +276,7 @@ fn number_end(t: &Table, bytes: &[u8], pos: usize) -> Ended
 }
 
 // A byte past the end counts as 0, which no row has.
-fn byte_at(bytes: &[u8], pos: usize) -> u8
+pub(crate) fn byte_at(bytes: &[u8], pos: usize) -> u8
     ensures { λ r. ⌜ r ≡ getD (now (bytes .entry)) pos 0 ⌝ }
 {
     if pos < bytes.len() { bytes[pos] } else { 0 }

@@ -31,6 +31,19 @@ unfolding charStart
 start-le [] i = omega arith
 start-le (c ∷ cs) i = by-le (width c) i (λ h. let k = start-le cs (i - width c) in omega (arith, start-past c cs i h)) (λ h. omega (arith, start-in c cs i h))
 
+-- one place back in the same character
+pub start-back : (cs : List ℕ) (i : ℕ) → charStart cs i < i → charStart cs (i - 1) ≡ charStart cs i
+unfolding charStart
+start-back [] i h = refl
+start-back (c ∷ cs) i h =
+    by-le (width c) i
+    (λ g.
+    let p = start-past c cs i g in
+    let k : charStart cs (i - width c) < i - width c = omega arith in
+    let e : i - 1 - width c ≡ i - width c - 1 = omega arith in
+    start-past c cs (i - 1) (omega arith) ∙ ap (λ n. width c + n) (ap (charStart cs) e ∙ start-back cs (i - width c) k) ∙ sym p)
+    (λ g. start-in c cs (i - 1) (omega arith) ∙ sym (start-in c cs i g))
+
 -- it is where the characters before it end
 pub start-is : (cs : List ℕ) (i : ℕ) → (n : ℕ) × (charStart cs i ≡ widths (take n cs))
 unfolding charStart widths

@@ -1,0 +1,103 @@
+-- No two answers satisfy the contract of an entry point: an answer can be read back from document 01's numbers and places.
+use Prim.Native.Nat.{ℕ, zero, suc}
+use mathlib.Core.Path.{_≡_, refl, sym, _∙_, ap, ap₂}
+use denote.Ref.{now}
+use Rattle.classes.specs.Classes.{Said, gives, says}
+use Rattle.pattern.specs.Answers.{Found, passes, no, Fill}
+use Rattle.pretokenize.specs.declared.entry.Refusal.{Refusal}
+use Rattle.pretokenize.specs.declared.entry.Refusal.the-variants.{Mode, Long, Damaged, Past, Inside}
+use Rattle.pretokenize.specs.declared.entry.Verdict.{Verdict}
+use Rattle.pretokenize.specs.declared.entry.Verdict.the-variants as v
+use Rattle.pretokenize.specs.declared.entry.NextEnd.{NextEnd}
+use Rattle.pretokenize.specs.declared.entry.NextEnd.the-variants as n
+use Rattle.pretokenize.specs.declared.entry.Filled.{Filled}
+use Rattle.pretokenize.specs.declared.entry.Filled.the-variants as f
+use Rattle.pretokenize.specs.declared.entry.Step.{Step}
+use Rattle.pretokenize.specs.Entry.{number, place, verdict, said, filled}
+use Rattle.pretokenize.proofs.entry.checked.Reads as checked
+use Rattle.pretokenize.proofs.entry.next_end.Reads as next-end
+use Rattle.pretokenize.proofs.entry.token.Reads as token
+use Rattle.pretokenize.proofs.entry.fill.Reads as fill
+use Rattle.pretokenize.proofs.entry.Walker.step.Reads as step
+
+-- an answer that can be read back from what it says is fixed by it
+one : {A B : Type 0} (say : A → B) (back : B → A) → ((x : A) → back (say x) ≡ x) → {x y : A} {b : B} → say x ≡ b → say y ≡ b → x ≡ y
+one say back same {x} {y} p q = sym (same x) ∙ ap back (p ∙ sym q) ∙ same y
+
+-- the answers, read back from document 01's numbers and places
+refusal : ℕ → ℕ → Refusal
+refusal zero p = Mode
+refusal (suc zero) p = Mode
+refusal (suc (suc zero)) p = Long
+refusal (suc (suc (suc zero))) p = Damaged p
+refusal (suc (suc (suc (suc zero)))) p = Past p
+refusal (suc (suc (suc (suc (suc n))))) p = Inside p
+
+same-refusal : (r : Refusal) → refusal (number r) (place r) ≡ r
+unfolding refusal
+same-refusal Mode = refl
+same-refusal Long = refl
+same-refusal (Damaged p) = refl
+same-refusal (Past p) = refl
+same-refusal (Inside p) = refl
+
+found-back : Found → Verdict
+found-back passes = v.Passed
+found-back (no n p) = v.Refused (refusal n p)
+
+same-verdict : (x : Verdict) → found-back (verdict x) ≡ x
+unfolding found-back
+same-verdict v.Passed = refl
+same-verdict (v.Refused r) = ap v.Refused (same-refusal r)
+
+said-back : Said ℕ → NextEnd
+said-back (gives e) = n.At e
+said-back (says zero p) = n.End p
+said-back (says (suc k) p) = n.Refused (refusal (suc k) p)
+
+same-end : (x : NextEnd) → said-back (said x) ≡ x
+unfolding said-back refusal
+same-end (n.At e) = refl
+same-end (n.End p) = refl
+same-end (n.Refused Mode) = refl
+same-end (n.Refused Long) = refl
+same-end (n.Refused (Damaged p)) = refl
+same-end (n.Refused (Past p)) = refl
+same-end (n.Refused (Inside p)) = refl
+
+fill-by : Found → ℕ → ℕ → Filled
+fill-by passes c m = f.Ends c m
+fill-by (no n p) c m = f.Refused (refusal n p)
+
+fill-back : Fill → Filled
+fill-back x = fill-by (x .found) (x .count) (x .next)
+
+same-fill : (at : ℕ) (x : Filled) → fill-back (filled at x) ≡ x
+unfolding fill-back fill-by
+same-fill at (f.Ends c m) = refl
+same-fill at (f.Refused r) = ap f.Refused (same-refusal r)
+
+one-verdict : {x y : Verdict} {b : Found} → verdict x ≡ b → verdict y ≡ b → x ≡ y
+one-verdict = one verdict found-back same-verdict
+
+one-end : {x y : NextEnd} {b : Said ℕ} → said x ≡ b → said y ≡ b → x ≡ y
+one-end = one said said-back same-end
+
+one-fill : (at : ℕ) {x y : Filled} {b : Fill} → filled at x ≡ b → filled at y ≡ b → x ≡ y
+one-fill at = one (filled at) fill-back (same-fill at)
+
+-- the contracts are those that the functions are proved against
+pub checked-one : (κs : _) (a : _) (e e′ : _) {x y : Verdict} → checked.Post κs a x e → checked.Post κs a y e′ → x ≡ y
+checked-one κs a e e′ p q = one-verdict p q
+
+pub next-end-one : (κs : _) (a : _) (e e′ : _) {x y : NextEnd} → next-end.Post κs a x e → next-end.Post κs a y e′ → x ≡ y
+next-end-one κs a e e′ p q = one-end p q
+
+pub token-one : (κs : _) (a : _) (e e′ : _) (x y : _) → token.Post κs a x e → token.Post κs a y e′ → (now x ≡ now y) × (x .ptr ≡ y .ptr)
+token-one κs a e e′ x y p q = (p .0 ∙ sym (q .0), p .1 ∙ sym (q .1))
+
+pub fill-one : (κs : _) (a : _) (e e′ : _) {x y : Filled} → fill.Post κs a x e → fill.Post κs a y e′ → (x ≡ y) × (now (e .1 .1 .1 .0) ≡ now (e′ .1 .1 .1 .0))
+fill-one κs a e e′ p q = (one-fill _ (p .0) (q .0), p .1 ∙ sym (q .1))
+
+pub step-one : (κs : _) (a : _) (e e′ : _) {x y : Step} → step.Post κs a x e → step.Post κs a y e′ → x ≡ y
+step-one κs a e e′ p q = ap₂ (λ n w. record { answer = n; walker = w }) (one-end (p .0) (q .0)) (p .1 ∙ sym (q .1))

@@ -1,0 +1,215 @@
+// The entry points: each makes the checks first, in their order, and hands a refusal on whole.
+use crate::o200k_family::Advance;
+use crate::o200k_family::advance_pos;
+use crate::o200k_family::byte_at;
+use classes::Table;
+use classes::table;
+use pattern::Options;
+use utf8::Checked;
+use utf8::check;
+ghost use mathlib.Core.Path.{_≡_};
+ghost use Prim.Native.Nat.{_+_, _<_, _≤_};
+ghost use lib.ListN.{length};
+ghost use Rattle.utf8.specs.Utf8.{chars, Valid, charStart, within};
+ghost use Rattle.classes.specs.Rows.{table};
+ghost use Rattle.pattern.specs.Answers.{passes, checks, nextEnd, tokenBytes, fill, fillList};
+ghost use Rattle.pretokenize.specs.Place.{Ready};
+ghost use Rattle.pretokenize.specs.Scan.{Known, Advanced};
+ghost use Rattle.pretokenize.specs.Entry.{verdict, said, filled, tokenPlace, stepEnd, moved};
+
+// The longest text that is taken, in bytes.
+pub const LIMIT: usize = 1048576;
+
+// Why a call is refused, with the place where it depends on the call.
+pub enum Refusal {
+    Mode,
+    Long,
+    Damaged(usize),
+    Past(usize),
+    Inside(usize),
+}
+
+pub enum Verdict {
+    Passed,
+    Refused(Refusal),
+}
+
+// Where a token ends; that the text has ended, with its length; or why the call is refused.
+pub enum NextEnd {
+    At(usize),
+    End(usize),
+    Refused(Refusal),
+}
+
+// How many ends were written, and where the next token begins; or why the call is refused.
+pub enum Filled {
+    Ends(usize, usize),
+    Refused(Refusal),
+}
+
+// A walk of a text: its options, and where its next token begins.
+pub struct Walker {
+    pub options: Options,
+    pub at: usize,
+}
+
+// What a step of a walk answers, and the walker after it.
+pub struct Step {
+    pub answer: NextEnd,
+    pub walker: Walker,
+}
+
+// Does this byte continue a character?
+fn continues(b: u8) -> bool
+    ensures { λ r. ⌜ r ≡ within 0x80 b 0xbf ⌝ }
+{
+    0x80 <= b && b <= 0xbf
+}
+
+// The place of the first byte of the character that a place of a checked text is in.
+fn char_start(text: &[u8], at: usize) -> usize
+    requires { ⌜ Valid (now text) × (at ≤ length (now text)) ⌝ }
+    ensures { λ r. ⌜ r ≡ charStart (chars (now (text .entry))) at ⌝ }
+{
+    let mut i = at;
+    while continues(byte_at(text, i)) {
+        i -= 1;
+    }
+    i
+}
+
+// The checks, in their order.
+pub fn checked(text: &[u8], o: Options, start: usize) -> Verdict
+    ensures { λ r. ⌜ verdict r ≡ checks o (now (text .entry)) start ⌝ }
+{
+    if o.digits > 2 {
+        return Verdict::Refused(Refusal::Mode);
+    }
+    if text.len() > LIMIT {
+        return Verdict::Refused(Refusal::Long);
+    }
+    let c = check(text);
+    match c {
+        Checked::BadAt(p) => return Verdict::Refused(Refusal::Damaged(p)),
+        Checked::Valid => {}
+    }
+    if start > text.len() {
+        return Verdict::Refused(Refusal::Past(text.len()));
+    }
+    let first = char_start(text, start);
+    if first < start {
+        return Verdict::Refused(Refusal::Inside(first));
+    }
+    Verdict::Passed
+}
+
+// The end of the token at a start.
+pub fn next_end(text: &[u8], o: Options, start: usize) -> NextEnd
+    ensures { λ r. ⌜ said r ≡ nextEnd o (now (text .entry)) start ⌝ }
+{
+    let v = checked(text, o, start);
+    match v {
+        Verdict::Refused(r) => NextEnd::Refused(r),
+        Verdict::Passed => {
+            if start == text.len() {
+                return NextEnd::End(start);
+            }
+            let t = table();
+            let a = advance_pos(&t, &text[start..], o);
+            NextEnd::At(start + a.len)
+        }
+    }
+}
+
+// The bytes of the token at a start, the caller's own; none at the end of the text or on a refusal.
+pub fn token(text: &[u8], o: Options, start: usize) -> &[u8]
+    ensures { λ r. ⌜ (now r ≡ tokenBytes o (now (text .entry)) start) × (r .ptr ≡ (text .entry .ptr .0, tokenPlace o (now (text .entry)) start + text .entry .ptr .1)) ⌝ }
+{
+    let n = next_end(text, o, start);
+    match n {
+        NextEnd::At(e) => &text[start..e],
+        NextEnd::End(_) => &text[0..0],
+        NextEnd::Refused(_) => &text[0..0],
+    }
+}
+
+// The token in front of some checked text, where so many whole groups of three digits are known to stand there: one of them is
+// what digit mode 1 takes.
+fn next_token(t: &Table, bytes: &[u8], o: Options, groups: usize) -> Advance
+    requires { ⌜ Ready (now t) (now bytes) 0 ⌝ }
+    requires { ⌜ 0 < length (now bytes) ⌝ }
+    requires { ⌜ Known o (chars (now bytes)) groups ⌝ }
+    ensures { λ r. ⌜ Advanced o (chars (now (bytes .entry))) (r .len) (r .groups) ⌝ }
+{
+    if groups == 0 {
+        return advance_pos(t, bytes, o);
+    }
+    let left = Options {
+        contractions: o.contractions,
+        digits: 1,
+        slash: o.slash,
+    };
+    let a = advance_pos(t, bytes, left);
+    Advance {
+        len: a.len,
+        groups: groups - 1,
+    }
+}
+
+// The ends of the tokens from an accepted start on.
+fn fill_from(t: &Table, text: &[u8], o: Options, start: usize, ends: &mut [u32]) -> Filled
+    requires { ⌜ now t ≡ table ⌝ }
+    requires { ⌜ checks o (now text) start ≡ passes ⌝ }
+    ensures { λ r. ⌜ (filled start r ≡ fill o (now (text .entry)) start (length (now (ends .entry)))) × (now (ends .exit) ≡ fillList o (now (text .entry)) start (now (ends .entry))) ⌝ }
+{
+    let mut count = 0;
+    let mut at = start;
+    let mut groups = 0;
+    while count < ends.len() && at < text.len() {
+        let a = next_token(t, &text[at..], o, groups);
+        at += a.len;
+        groups = a.groups;
+        ends[count] = at as u32;
+        count += 1;
+    }
+    Filled::Ends(count, at)
+}
+
+// The ends of the tokens from a start on, as many as there is room and text for.
+pub fn fill(text: &[u8], o: Options, start: usize, ends: &mut [u32]) -> Filled
+    ensures { λ r. ⌜ (filled start r ≡ fill o (now (text .entry)) start (length (now (ends .entry)))) × (now (ends .exit) ≡ fillList o (now (text .entry)) start (now (ends .entry))) ⌝ }
+{
+    let v = checked(text, o, start);
+    match v {
+        Verdict::Refused(r) => Filled::Refused(r),
+        Verdict::Passed => {
+            let t = table();
+            fill_from(&t, text, o, start, ends)
+        }
+    }
+}
+
+impl Walker {
+    // One token on: the answer of `next_end` at the walker's place, and the walker moved to the token's end.
+    pub fn step(self, text: &[u8]) -> Step
+        ensures { λ r. ⌜ (said (r .answer) ≡ stepEnd self (now (text .entry))) × (r .walker ≡ moved self (now (text .entry))) ⌝ }
+    {
+        let o = self.options;
+        let at = self.at;
+        let answer = next_end(text, o, at);
+        match answer {
+            NextEnd::At(e) => Step {
+                answer,
+                walker: Walker { options: o, at: e },
+            },
+            NextEnd::End(_) => Step {
+                answer,
+                walker: self,
+            },
+            NextEnd::Refused(_) => Step {
+                answer,
+                walker: self,
+            },
+        }
+    }
+}
