@@ -10,3 +10,4 @@ pub mod Records
 pub mod Alike
 pub mod Published
 pub mod Examples
+pub mod Unique
