@@ -5,7 +5,7 @@ use mathlib.Core.Path.{_≡_, refl, sym, _∙_, ap}
 use native.Mathlib.Omega.{arith}
 use native.Mathlib.Nat.{add-zero}
 use lib.ListN.{length, take, drop, take-append-drop}
-use lib.Seq.{drop-drop, drop-length}
+use lib.Seq.{take-all, drop-drop, drop-length}
 use Rattle.utf8.specs.Utf8.{chars, charsAt, width, widths, charStart}
 use Rattle.utf8.proofs.Tests.{by-le}
 use Rattle.utf8.proofs.Width.{widths-some}
@@ -14,7 +14,7 @@ use Rattle.utf8.proofs.Place.{On, on-begins, on-past}
 use Rattle.pattern.specs.declared.Options.{Options}
 use Rattle.pattern.specs.Pattern.{token}
 use Rattle.pattern.specs.Records.{join}
-use Rattle.pattern.specs.Answers.{passes, checks, tokenEnd, endsFrom, endsAt}
+use Rattle.pattern.specs.Answers.{passes, checks, tokenEnd, endsFrom, endsAt, written}
 use Rattle.pattern.proofs.Bounds.{token-good}
 use Rattle.pattern.proofs.Accepted.{accepted, on}
 
@@ -103,6 +103,15 @@ climb o s (suc n) at m h = by-le (length s) at
 -- THE WALK
 pub walk-climbs : (o : Options) (s : List ℕ) (at : ℕ) → checks o s at ≡ passes → Climbs at (endsAt o s at) (length s)
 walk-climbs o s at e = climb o s (length s) at (omega arith) (on (accepted o s at e))
+
+pub climbs-length : {a b : ℕ} {es : List ℕ} → Climbs a es b → a + length es ≤ b
+climbs-length there = omega arith
+climbs-length (past h k) = let l = climbs-length k in omega arith
+
+-- a fill with room for as many ends as the text has bytes writes them all
+pub fill-whole : (o : Options) (s : List ℕ) (at room : ℕ) → checks o s at ≡ passes → length s ≤ room → written o s at room ≡ endsAt o s at
+unfolding written
+fill-whole o s at room e h = let l = climbs-length (walk-climbs o s at e) in rw e (take-all room (endsAt o s at) (omega arith))
 
 -- the parts of a text between a place and each end after it
 unfoldable pub parts : List ℕ → ℕ → List ℕ → List (List ℕ)

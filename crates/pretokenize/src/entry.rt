@@ -15,7 +15,7 @@ ghost use Rattle.classes.specs.Rows.{table};
 ghost use Rattle.pattern.specs.Answers.{passes, checks, nextEnd, tokenBytes, fill, fillList};
 ghost use Rattle.pretokenize.specs.Place.{Ready};
 ghost use Rattle.pretokenize.specs.Scan.{Known, Advanced};
-ghost use Rattle.pretokenize.specs.Entry.{verdict, said, filled, tokenPlace, stepEnd, moved};
+ghost use Rattle.pretokenize.specs.Entry.{number, place, verdict, said, filled, tokenPlace, stepEnd, moved};
 
 // The longest text that is taken, in bytes.
 pub const LIMIT: usize = 1048576;
@@ -27,6 +27,32 @@ pub enum Refusal {
     Damaged(usize),
     Past(usize),
     Inside(usize),
+}
+
+impl Refusal {
+    pub fn number(self) -> u32
+        ensures { λ r. ⌜ r ≡ number self ⌝ }
+    {
+        match self {
+            Refusal::Mode => 1,
+            Refusal::Long => 2,
+            Refusal::Damaged(_) => 3,
+            Refusal::Past(_) => 4,
+            Refusal::Inside(_) => 5,
+        }
+    }
+
+    pub fn place(self) -> usize
+        ensures { λ r. ⌜ r ≡ place self ⌝ }
+    {
+        match self {
+            Refusal::Mode => 0,
+            Refusal::Long => LIMIT,
+            Refusal::Damaged(p) => p,
+            Refusal::Past(p) => p,
+            Refusal::Inside(p) => p,
+        }
+    }
 }
 
 pub enum Verdict {
