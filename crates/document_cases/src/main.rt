@@ -167,13 +167,17 @@ fn mode(digits: u8) -> Options {
 }
 
 // The examples, in the document's order; those that are marked are proved of the definition too.
-fn examples() {
+fn bench_examples() {
     let o = Options::o200k();
     example(b"empty", b"", o);
     example(b"THD 1250", b"THD 1250", o);
     example(b"THD 1250, mode 2", b"THD 1250", mode(2));
     example(b"THD 1250, mode 0", b"THD 1250", mode(0));
     example(b"0,5", b"0,5", o);
+}
+
+fn suffix_examples() {
+    let o = Options::o200k();
     example(b"don't", b"don't", o);
     example(
         b"don't, contractions off",
@@ -183,13 +187,25 @@ fn examples() {
     example(b"'sound", b"'sound", o);
     example(b"x'll'd", b"x'll'd", o);
     example(b"61 27 C5 BF 62", b"a'\xc5\xbfb", o);
+}
+
+fn case_examples() {
+    let o = Options::o200k();
     example(b"D7 90 41", b"\xd7\x90A", o);
     example(b"D7 90 41 62", b"\xd7\x90Ab", o);
     example(b"CC 81 41", b"\xcc\x81A", o);
+}
+
+fn white_examples() {
+    let o = Options::o200k();
     example(b"two spaces and a", b"  a", o);
     example(b"20 0A 20 78", b" \n x", o);
     example(b"21 0A 2F 21", b"!\n/!", o);
     example(b"21 0A 2F 21, slash off", b"!\n/!", options(true, 1, false));
+}
+
+fn mixed_examples() {
+    let o = Options::o200k();
     example(b"aB", b"aB", o);
     example(b"ABc", b"ABc", o);
     example(b"09 56", b"\tV", o);
@@ -219,6 +235,10 @@ fn starts() {
     edge(b"abc from the last start", b"abc", o, 0xffffffffffffffff);
     edge(b"empty from 0", b"", o, 0);
     edge(b"empty from 1", b"", o, 1);
+}
+
+fn starts_in_characters() {
+    let o = Options::o200k();
     let text = b"\xc3\xa9\xe2\x82\xac\xf0\x9f\x98\x80";
     edge(b"two bytes from 1", text, o, 1);
     edge(b"three bytes from 3", text, o, 3);
@@ -231,7 +251,6 @@ fn starts() {
 
 // The first of several refusals, in the order 1, 2, 3, then 4 or 5.
 fn order(long: &[u8]) {
-    let o = Options::o200k();
     let damaged = b"\xc3\xa9\xff";
     edge(b"mode 3", b"abc", mode(3), 0);
     edge(b"mode 255", b"abc", mode(255), 0);
@@ -243,6 +262,11 @@ fn order(long: &[u8]) {
         2000000,
     );
     edge(b"mode 3, damaged, inside a character", damaged, mode(3), 1);
+}
+
+fn order_past_mode(long: &[u8]) {
+    let o = Options::o200k();
+    let damaged = b"\xc3\xa9\xff";
     edge(b"over the limit, damaged, past the end", long, o, 2000000);
     edge(b"damaged, past the end", damaged, o, 4);
     edge(b"damaged, inside a character", damaged, o, 1);
@@ -307,6 +331,7 @@ fn damaged_limits() {
     edge(b"1048576 bytes, damaged", &most, o, 0);
     let more = more_bytes(0xff);
     order(&more);
+    order_past_mode(&more);
 }
 
 // A class asked of a number that is no scalar value is refusal 6, place 0.
@@ -429,9 +454,14 @@ fn every_start() {
 }
 
 fn main() {
-    examples();
+    bench_examples();
+    suffix_examples();
+    case_examples();
+    white_examples();
+    mixed_examples();
     damage();
     starts();
+    starts_in_characters();
     limits();
     damaged_limits();
     rooms();

@@ -11,3 +11,4 @@ pub mod Alike
 pub mod Published
 pub mod Examples
 pub mod Unique
+pub mod Refused

@@ -14,6 +14,8 @@ use Rattle.pretokenize.specs.declared.entry.Filled.{Filled}
 use Rattle.pretokenize.specs.declared.entry.Filled.the-variants as f
 use Rattle.pretokenize.specs.declared.entry.Step.{Step}
 use Rattle.pretokenize.specs.Entry.{number, place, verdict, said, filled}
+use Rattle.pretokenize.proofs.entry.Refusal.number.Reads as number-of
+use Rattle.pretokenize.proofs.entry.Refusal.place.Reads as place-of
 use Rattle.pretokenize.proofs.entry.checked.Reads as checked
 use Rattle.pretokenize.proofs.entry.next_end.Reads as next-end
 use Rattle.pretokenize.proofs.entry.token.Reads as token
@@ -89,6 +91,12 @@ one-fill at = one (filled at) fill-back (same-fill at)
 -- the contracts are those that the functions are proved against
 pub checked-one : (κs : _) (a : _) (e e′ : _) {x y : Verdict} → checked.Post κs a x e → checked.Post κs a y e′ → x ≡ y
 checked-one κs a e e′ p q = one-verdict p q
+
+pub number-one : (κs : _) (a : _) (e e′ : _) {x y : ℕ} → number-of.Post κs a x e → number-of.Post κs a y e′ → x ≡ y
+number-one κs a e e′ p q = p ∙ sym q
+
+pub place-one : (κs : _) (a : _) (e e′ : _) {x y : ℕ} → place-of.Post κs a x e → place-of.Post κs a y e′ → x ≡ y
+place-one κs a e e′ p q = p ∙ sym q
 
 pub next-end-one : (κs : _) (a : _) (e e′ : _) {x y : NextEnd} → next-end.Post κs a x e → next-end.Post κs a y e′ → x ≡ y
 next-end-one κs a e e′ p q = one-end p q

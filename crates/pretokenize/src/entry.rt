@@ -205,8 +205,8 @@ fn fill_from(t: &Table, text: &[u8], o: Options, start: usize, ends: &mut [u32])
 pub fn fill(text: &[u8], o: Options, start: usize, ends: &mut [u32]) -> Filled
     ensures { λ r. ⌜ (filled start r ≡ fill o (now (text .entry)) start (length (now (ends .entry)))) × (now (ends .exit) ≡ fillList o (now (text .entry)) start (now (ends .entry))) ⌝ }
 {
-    let v = checked(text, o, start);
-    match v {
+    let verdict = checked(text, o, start);
+    match verdict {
         Verdict::Refused(r) => Filled::Refused(r),
         Verdict::Passed => {
             let t = table();

@@ -11,7 +11,7 @@ fill-from-requires : tie.Need-fill-from-requires
 fill-from-requires c κs = (c .before .before .table .ensures, sym (c .before .before .before .before .before .checked .ensures) ∙ ap verdict (c .before .before .before .enum-told .given .1))
 
 returns : tie.Need-returns
-returns c = refuses _ _ _ _ (sym (ap verdict (c .before .v .given .1)) ∙ c .before .before .before .checked .ensures)
+returns c = refuses _ _ _ _ (sym (ap verdict (c .before .verdict .given .1)) ∙ c .before .before .before .checked .ensures)
 
 pub fill-spec : {M : Type 1} → statement M
 fill-spec =
