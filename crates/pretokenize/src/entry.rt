@@ -238,4 +238,13 @@ impl Walker {
             },
         }
     }
+
+    // The same step, with the walker lent and moved in place.
+    pub fn step_in_place(&mut self, text: &[u8]) -> NextEnd
+        ensures { λ r. ⌜ (said r ≡ stepEnd (now (self .entry)) (now (text .entry))) × (now (self .exit) ≡ moved (now (self .entry)) (now (text .entry))) ⌝ }
+    {
+        let s = Walker::step(*self, text);
+        *self = s.walker;
+        s.answer
+    }
 }

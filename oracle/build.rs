@@ -1,0 +1,17 @@
+//! Links the static library of the port: from ../target/staticlib, or from the folder that NJUXALEET_LIB names.
+
+use std::env;
+use std::path::PathBuf;
+
+fn main() {
+    println!("cargo::rerun-if-env-changed=NJUXALEET_LIB");
+    let folder = env::var_os("NJUXALEET_LIB").map_or_else(folder_of_the_port, PathBuf::from);
+    println!("cargo::rerun-if-changed={}", folder.join("libnjuxaleet.a").display());
+    println!("cargo::rustc-link-search=native={}", folder.display());
+    println!("cargo::rustc-link-lib=static=njuxaleet");
+}
+
+fn folder_of_the_port() -> PathBuf {
+    let package = env::var_os("CARGO_MANIFEST_DIR").expect("cargo names the folder of the package");
+    PathBuf::from(package).join("../target/staticlib")
+}
