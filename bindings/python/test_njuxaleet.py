@@ -69,7 +69,7 @@ class Examples(unittest.TestCase):
 
 class Kinds(unittest.TestCase):
     def test_bytearray_and_memoryview(self):
-        for data in (bytearray(b'THD 1250'), memoryview(b'THD 1250'), memoryview(b'0T5H2D1 ' * 2)[::1]):
+        for data in (bytearray(b'THD 1250'), memoryview(b'THD 1250'), memoryview(bytearray(b'THD 1250'))):
             self.assertEqual(cut(data), cut(bytes(data)))
             self.assertTrue(all(type(token) is bytes for token in cut(data)))
 

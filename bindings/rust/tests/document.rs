@@ -315,5 +315,5 @@ fn a_long_cut_joins_to_the_text() {
     let text = "THD 1250, don't! \u{5D0}\u{301}\n".repeat(40_000);
     let cut: Vec<&[u8]> = tokens(text.as_bytes(), O200K).unwrap().collect();
     assert_eq!(cut.concat(), text.as_bytes());
-    assert_eq!(cut.len(), 280_000);
+    assert_eq!(cut.len(), 360_000);
 }

@@ -1,10 +1,13 @@
 -- Past the first token of a run of digits grouped from the right the run is a multiple of three: the next token is three, and one group less is left.
 use Prim.Native.Nat.{ℕ, zero, suc, _+_, _-_, _%_, _<_, _≤_}
-use mathlib.Core.Bool.{Bool, true, cond}
+use mathlib.Core.Bool.{Bool, true, false, cond}
 use mathlib.Core.List.{List, [], _∷_}
-use mathlib.Core.Path.{_≡_, refl, sym, _∙_, ap}
+use mathlib.Core.Path.{_≡_, refl, sym, _∙_, ap, subst}
 use native.Mathlib.Omega.{arith}
+use borrow.Author.Tests.{ne-eqb}
 use lib.ListN.{drop}
+use lib.Dec.{eqb}
+use Rattle.utf8.specs.Utf8.{pick}
 use Rattle.utf8.proofs.Tests.{by-bool, never}
 use Rattle.classes.specs.Classes.{classOf}
 use Rattle.classes.specs.declared.Class.{Class}
@@ -76,3 +79,13 @@ known-token o cs {l} {r} {g} k h a =
     let n = k h in
     let t : token (record { contractions = o .contractions; digits = 1; slash = o .slash }) cs ≡ 3 = number-token _ cs (omega (arith, n .enough)) ∙ omega (arith, n .enough) in
     record { len = a .len ∙ ap (λ m. span m cs) (t ∙ sym (n .three)); left = sym (n .left) }
+
+-- the token after so many known groups, and the groups past it
+pub next-known : (o : Options) (cs : List ℕ) (g : ℕ) {d l r n : ℕ} → Known o cs g → d ≡ pick (eqb g 0) (o .digits) 1 → Advanced (record { contractions = o .contractions; digits = d; slash = o .slash }) cs l r → n ≡ pick (eqb g 0) r (g - 1)
+    → Advanced o cs l n
+next-known o cs zero {d} {l} {r} {n} k e a m = subst (λ x. Advanced o cs l x) (sym m) (subst (λ x. Advanced (record { contractions = o .contractions; digits = x; slash = o .slash }) cs l r) e a)
+next-known o cs (suc g) {d} {l} {r} {n} k e a m =
+    let z : eqb (suc g) 0 ≡ false = ne-eqb (suc g) 0 (λ q. omega arith) in
+    let one : d ≡ 1 = e ∙ ap (λ b. pick b (o .digits) 1) z in
+    let rest : n ≡ suc g - 1 = m ∙ ap (λ b. pick b r (suc g - 1)) z in
+    subst (λ x. Advanced o cs l x) (sym rest) (known-token o cs k (omega arith) (subst (λ x. Advanced (record { contractions = o .contractions; digits = x; slash = o .slash }) cs l r) one a))

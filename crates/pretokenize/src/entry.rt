@@ -8,9 +8,10 @@ use pattern::Options;
 use utf8::Checked;
 use utf8::check;
 ghost use mathlib.Core.Path.{_≡_};
-ghost use Prim.Native.Nat.{_+_, _<_, _≤_};
+ghost use Prim.Native.Nat.{_+_, _-_, _<_, _≤_};
+ghost use lib.Dec.{eqb};
 ghost use lib.ListN.{length};
-ghost use Rattle.utf8.specs.Utf8.{chars, Valid, charStart, within};
+ghost use Rattle.utf8.specs.Utf8.{pick, chars, Valid, charStart, within};
 ghost use Rattle.classes.specs.Rows.{table};
 ghost use Rattle.pattern.specs.Answers.{passes, checks, nextEnd, tokenBytes, fill, fillList};
 ghost use Rattle.pretokenize.specs.Place.{Ready};
@@ -129,56 +130,36 @@ pub fn checked(text: &[u8], o: Options, start: usize) -> Verdict
     Verdict::Passed
 }
 
-// The end of the token at a start.
-pub fn next_end(text: &[u8], o: Options, start: usize) -> NextEnd
-    ensures { λ r. ⌜ said r ≡ nextEnd o (now (text .entry)) start ⌝ }
+// The digit mode for the next token where so many whole groups of three digits are known to stand: one of them is what mode 1 takes.
+fn mode_for(mode: u8, groups: usize) -> u8
+    ensures { λ r. ⌜ r ≡ pick (eqb groups 0) mode 1 ⌝ }
 {
-    let v = checked(text, o, start);
-    match v {
-        Verdict::Refused(r) => NextEnd::Refused(r),
-        Verdict::Passed => {
-            if start == text.len() {
-                return NextEnd::End(start);
-            }
-            let t = table();
-            let a = advance_pos(&t, &text[start..], o);
-            NextEnd::At(start + a.len)
-        }
-    }
+    if groups == 0 { mode } else { 1 }
 }
 
-// The bytes of the token at a start, the caller's own; none at the end of the text or on a refusal.
-pub fn token(text: &[u8], o: Options, start: usize) -> &[u8]
-    ensures { λ r. ⌜ (now r ≡ tokenBytes o (now (text .entry)) start) × (r .ptr ≡ (text .entry .ptr .0, tokenPlace o (now (text .entry)) start + text .entry .ptr .1)) ⌝ }
+// The groups known past that token.
+fn groups_past(groups: usize, left: usize) -> usize
+    ensures { λ r. ⌜ r ≡ pick (eqb groups 0) left (groups - 1) ⌝ }
 {
-    let n = next_end(text, o, start);
-    match n {
-        NextEnd::At(e) => &text[start..e],
-        NextEnd::End(_) => &text[0..0],
-        NextEnd::Refused(_) => &text[0..0],
-    }
+    if groups == 0 { left } else { groups - 1 }
 }
 
-// The token in front of some checked text, where so many whole groups of three digits are known to stand there: one of them is
-// what digit mode 1 takes.
+// The token in front of some checked text, where so many whole groups of three digits are known to stand there.
 fn next_token(t: &Table, bytes: &[u8], o: Options, groups: usize) -> Advance
     requires { ⌜ Ready (now t) (now bytes) 0 ⌝ }
     requires { ⌜ 0 < length (now bytes) ⌝ }
     requires { ⌜ Known o (chars (now bytes)) groups ⌝ }
     ensures { λ r. ⌜ Advanced o (chars (now (bytes .entry))) (r .len) (r .groups) ⌝ }
 {
-    if groups == 0 {
-        return advance_pos(t, bytes, o);
-    }
-    let left = Options {
+    let by = Options {
         contractions: o.contractions,
-        digits: 1,
+        digits: mode_for(o.digits, groups),
         slash: o.slash,
     };
-    let a = advance_pos(t, bytes, left);
+    let a = advance_pos(t, bytes, by);
     Advance {
         len: a.len,
-        groups: groups - 1,
+        groups: groups_past(groups, a.groups),
     }
 }
 
@@ -212,6 +193,35 @@ pub fn fill(text: &[u8], o: Options, start: usize, ends: &mut [u32]) -> Filled
             let t = table();
             fill_from(&t, text, o, start, ends)
         }
+    }
+}
+
+// The end of the token at a start: what a fill with room for one end finds.
+pub fn next_end(text: &[u8], o: Options, start: usize) -> NextEnd
+    ensures { λ r. ⌜ said r ≡ nextEnd o (now (text .entry)) start ⌝ }
+{
+    let mut one = [0u32; 1];
+    let f = fill(text, o, start, &mut one);
+    match f {
+        Filled::Refused(r) => NextEnd::Refused(r),
+        Filled::Ends(_, next) => {
+            if next == start {
+                return NextEnd::End(start);
+            }
+            NextEnd::At(next)
+        }
+    }
+}
+
+// The bytes of the token at a start, the caller's own; none at the end of the text or on a refusal.
+pub fn token(text: &[u8], o: Options, start: usize) -> &[u8]
+    ensures { λ r. ⌜ (now r ≡ tokenBytes o (now (text .entry)) start) × (r .ptr ≡ (text .entry .ptr .0, tokenPlace o (now (text .entry)) start + text .entry .ptr .1)) ⌝ }
+{
+    let n = next_end(text, o, start);
+    match n {
+        NextEnd::At(e) => &text[start..e],
+        NextEnd::End(_) => &text[0..0],
+        NextEnd::Refused(_) => &text[0..0],
     }
 }
 

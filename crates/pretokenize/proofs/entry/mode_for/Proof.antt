@@ -1,0 +1,14 @@
+-- `pretokenize::entry::mode_for` meets its contract.
+-- Assumes nothing.
+use borrow.Author.Tests.{eq-eqb, ne-eqb}
+use Rattle.pretokenize.proofs.entry.mode_for.Statement.{statement}
+use Rattle.pretokenize.proofs.entry.mode_for.Tie as tie
+
+returns : tie.Need-returns
+returns c = rw (eq-eqb _ _ (c .if1 .taken))
+
+returns-2 : tie.Need-returns-2
+returns-2 c = rw (ne-eqb _ _ (c .if1 .left))
+
+pub mode-for-spec : {M : Type 1} → statement M
+mode-for-spec = tie.close (tie.spec returns returns-2)
