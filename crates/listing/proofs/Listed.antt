@@ -31,7 +31,8 @@ module _ (s : List ℕ) where
 pub refused-fits : (n place : ℕ) → n < 10 ^ 20 → place < 10 ^ 20 → length (refusedLine n place) ≤ 53
 unfolding refusedLine
 refused-fits n place h k =
-    omega (arith, decimal-few n 19 h, decimal-few place 19 k, length-append (ascii "refused " ++ decimal n) (line (ascii " at " ++ decimal place)), length-append (ascii " at " ++ decimal place) (10 ∷ []))
+    let w = decimal n ++ (ascii " at " ++ decimal place) in
+    omega (arith, decimal-few n 19 h, decimal-few place 19 k, length-append (decimal n) (ascii " at " ++ decimal place), length-append (ascii "refused " ++ w) (10 ∷ []))
 
 -- five digits and LF for each end
 lines-fit : {a b : ℕ} {es : List ℕ} → Climbs a es b → b ≤ sheetLimit → length (lines es) ≤ 6 * length es

@@ -17,7 +17,7 @@ abbrev pub ascii : String → List ℕ
 ascii []ˢ = []
 ascii (c ∷ˢ cs) = code c ∷ ascii cs
 
--- a number's digits in base ten, no zero in front; the first argument bounds how many there are
+-- a number's digits in base ten, no zero in front, where it has no more than so many: n has no more than n + 1
 abbrev pub decimalIn : ℕ → ℕ → List ℕ
 decimalIn zero n = []
 decimalIn (suc k) n = pick (ltb n 10) ((48 + n) ∷ []) (decimalIn k (n / 10) ++ ((48 + n % 10) ∷ []))
@@ -37,7 +37,7 @@ unfoldable pub endsLines : List ℕ → List ℕ
 endsLines es = line (ascii "ends " ++ decimal (length es)) ++ lines es
 
 unfoldable pub refusedLine : ℕ → ℕ → List ℕ
-refusedLine n place = (ascii "refused " ++ decimal n) ++ line (ascii " at " ++ decimal place)
+refusedLine n place = line (ascii "refused " ++ (decimal n ++ (ascii " at " ++ decimal place)))
 
 -- a sheet over the program's limit is refused by its length alone
 unfoldable pub listing : List ℕ → List ℕ
