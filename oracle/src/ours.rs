@@ -1,4 +1,5 @@
-//! The port, through its C interface.
+//! The port, through its C interface. The declarations are its own, not those of the Rust package: every answer is prefilled with a mark,
+//! so that one that is not written is seen.
 
 use crate::Options;
 
