@@ -1,15 +1,46 @@
--- What the classes say of a byte: tests of ranges, compared with the definition at each of the 256 bytes by computation.
+-- What the classes say of a byte: tests of ranges, compared with the definition at each of the 256 bytes by computation. Only the
+-- ranges that begin in ASCII are gone through, since the others are clear of it.
 use mathlib.Core.Bool.{Bool, true, false, _||_}
-use mathlib.Core.Path.{_≡_, refl, sym, _∙_}
+use mathlib.Core.List.{List, [], _∷_}
+use mathlib.Core.Path.{_≡_, refl, sym, _∙_, ap}
 use Prim.Native.Nat.{ℕ, zero, suc, _+_, _%_, _^_, _-_, _≤_, _<_}
 use native.Mathlib.Omega.{arith}
 use lib.Bits.{bitOr}
-use lib.Dec.{eqb, ltb}
-use borrow.Author.Tests.{lt-ltb, le-ltb}
+use lib.Dec.{eqb, ltb, leb}
+use lib.ListN.{take, drop}
+use borrow.Author.Tests.{lt-ltb, le-ltb, leb-true}
 use Rattle.utf8.specs.Utf8.{pick, within}
-use Rattle.utf8.proofs.Tests.{by-le, passed, in-range, below, above}
-use Rattle.classes.specs.Classes.{classOf, same, asciiIs, asciiLetter}
-use Rattle.classes.specs.declared.Class.the-variants.{Upper, Caseless, Mark, Number, Whitespace}
+use Rattle.utf8.proofs.Tests.{by-bool, by-le, passed, in-range, below, above}
+use Rattle.classes.specs.Range.{Range, range}
+use Rattle.classes.specs.Ranges.{ranges}
+use Rattle.classes.specs.Classes.{classIn, classOf, whiteSpace, same, isLetter, asciiIs, asciiLetter}
+use Rattle.classes.specs.declared.Class.{Class}
+use Rattle.classes.specs.declared.Class.the-variants.{Upper, Caseless, Mark, Number, Whitespace, Other}
+use Rattle.classes.proofs.Disjoint.{clear, class-past}
+
+-- the first ranges, then the rest
+class-split : (n : ℕ) (rs : List Range) (c : ℕ) (k : Class) → classIn rs c k ≡ classIn (take n rs) c (classIn (drop n rs) c k)
+unfolding classIn
+class-split zero rs c k = refl
+class-split (suc n) [] c k = refl
+class-split (suc n) (r ∷ rs) c k = by-bool (within (r .from) c (r .to)) (λ t. rw (t, classIn)) (λ f. rw (f, classIn) (class-split n rs c k))
+
+-- the class of an ASCII character, by the three ranges that begin in ASCII
+abbrev asciiClass : ℕ → Class
+asciiClass b = classIn (take 3 ranges) b (classIn whiteSpace b Other)
+
+rest-clear : clear (range 0 0x7f Other) (drop 3 ranges) ≡ true
+unfolding ranges
+rest-clear = refl
+
+ascii-class : (b : ℕ) → b ≤ 0x7f → classOf b ≡ asciiClass b
+unfolding classOf
+ascii-class b h =
+    class-split 3 ranges b (classIn whiteSpace b Other)
+    ∙ ap (classIn (take 3 ranges) b) (class-past b (classIn whiteSpace b Other) (range 0 0x7f Other) (drop 3 ranges) rest-clear (in-range 0 b 0x7f (omega arith) h))
+
+ascii-by : (p : Class → Bool) (b : ℕ) → pick (leb b 0x7f) (p (classOf b)) false ≡ pick (leb b 0x7f) (p (asciiClass b)) false
+ascii-by p b = by-bool (leb b 0x7f) (λ t. ap (λ k. pick (leb b 0x7f) (p k) false) (ascii-class b (leb-true b 0x7f t))) (λ f. rw f)
 
 abbrev equal : Bool → Bool → Bool
 equal true b = b
@@ -35,26 +66,32 @@ agree-at f g (suc n) e b h =
 abbrev pub isBlank : ℕ → Bool
 isBlank b = pick (eqb b 32) true (within 9 b 13)
 
+-- a test of bytes that agrees with a test of their classes where they are ASCII, and fails elsewhere
+tests : (f : ℕ → Bool) (p : Class → Bool) → agree f (λ b. pick (leb b 0x7f) (p (asciiClass b)) false) 256 ≡ true → (b : ℕ) → b < 256 → f b ≡ pick (leb b 0x7f) (p (classOf b)) false
+tests f p e b h = agree-at f (λ b. pick (leb b 0x7f) (p (asciiClass b)) false) 256 e b h ∙ sym (ascii-by p b)
+
 pub upper-range : (b : ℕ) → b < 256 → within 65 b 90 ≡ asciiIs Upper b
-unfolding classOf
-upper-range = agree-at (λ b. within 65 b 90) (asciiIs Upper) 256 refl
+unfolding ranges whiteSpace classIn
+upper-range = tests (λ b. within 65 b 90) (same Upper) refl
 
 pub digit-range : (b : ℕ) → b < 256 → within 48 b 57 ≡ asciiIs Number b
-unfolding classOf
-digit-range = agree-at (λ b. within 48 b 57) (asciiIs Number) 256 refl
+unfolding ranges whiteSpace classIn
+digit-range = tests (λ b. within 48 b 57) (same Number) refl
 
 pub white-range : (b : ℕ) → b < 256 → isBlank b ≡ asciiIs Whitespace b
-unfolding classOf
-white-range = agree-at isBlank (asciiIs Whitespace) 256 refl
+unfolding ranges whiteSpace classIn
+white-range = tests isBlank (same Whitespace) refl
 
 pub letter-range : (b : ℕ) → b < 256 → within 97 (bitOr b 32) 122 ≡ asciiLetter b
-unfolding classOf
-letter-range = agree-at (λ b. within 97 (bitOr b 32) 122) asciiLetter 256 refl
+unfolding ranges whiteSpace classIn
+letter-range = tests (λ b. within 97 (bitOr b 32) 122) isLetter refl
 
 -- ASCII has no caseless letter and no mark
 pub ascii-plain : (b : ℕ) → b < 0x80 → (same Caseless (classOf b) || same Mark (classOf b)) ≡ false
-unfolding classOf
-ascii-plain = agree-at (λ b. same Caseless (classOf b) || same Mark (classOf b)) (λ b. false) 128 refl
+unfolding ranges whiteSpace classIn
+ascii-plain b h =
+    ap (λ k. same Caseless k || same Mark k) (ascii-class b (omega arith))
+    ∙ agree-at (λ b. same Caseless (asciiClass b) || same Mark (asciiClass b)) (λ b. false) 128 refl b h
 
 -- a range of n bytes that begins at a, tested by the wrapped difference
 pub wrapped : (a n b r : ℕ) → r < 256 → b < 256 → 1 ≤ n → a + n ≤ 256 → (r + a) % 2 ^ 8 ≡ b → ltb r n ≡ within a b (a + n - 1)

@@ -28,7 +28,7 @@ ascends n [] = true
 ascends n (r ∷ rs) = elim (pick (leb n (r .from)) (leb (r .from) (r .to)) false) [ true ↦ ascends (suc (r .to)) rs | false ↦ false ]
 
 -- no range shares a value with w; with none of some
-abbrev clear : Range → List Range → Bool
+abbrev pub clear : Range → List Range → Bool
 clear w [] = true
 clear w (r ∷ rs) = elim (pick (ltb (w .to) (r .from)) true (ltb (r .to) (w .from))) [ true ↦ clear w rs | false ↦ false ]
 
@@ -69,7 +69,7 @@ either : (a b : Bool) {P : Type 0} → pick a true b ≡ true → (a ≡ true �
 either true b e f g = f refl
 either false b e f g = g e
 
-class-past : (c : ℕ) (k : Class) (w : Range) (rs : List Range) → clear w rs ≡ true → Holds w c → classIn rs c k ≡ k
+pub class-past : (c : ℕ) (k : Class) (w : Range) (rs : List Range) → clear w rs ≡ true → Holds w c → classIn rs c k ≡ k
 unfolding classIn
 class-past c k w [] a h = refl
 class-past c k w (r ∷ rs) a h =

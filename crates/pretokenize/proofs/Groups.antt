@@ -18,7 +18,7 @@ use Rattle.pattern.specs.Pattern.{token}
 use Rattle.pattern.proofs.Trial.{run-step}
 use Rattle.pattern.proofs.Step.{number, isNumber, groupOf, stepBy, step}
 use Rattle.pattern.proofs.ClosedForm.{token-is-step}
-use Rattle.pretokenize.specs.Scan.{span, groups, NextGroup, Known, Advanced}
+use Rattle.scanners.specs.Scan.{span, groups, NextGroup, Known, Advanced}
 
 run-nil : (p : ℕ → Bool) → run p [] ≡ 0
 unfolding run

@@ -1,16 +1,3 @@
-pub mod Outside
-pub mod Stands
-pub mod Ascii
-pub mod Ended
-pub mod Case
-pub mod Bytes
-pub mod Letters
-pub mod Suffix
-pub mod White
-pub mod Digits
-pub mod Spans
-pub mod Start
-pub mod Choice
 pub mod Groups
 pub mod Checks
 pub mod Part

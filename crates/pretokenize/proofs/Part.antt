@@ -13,8 +13,8 @@ use Rattle.classes.specs.Rows.{table}
 use Rattle.pattern.specs.declared.Options.{Options}
 use Rattle.pattern.specs.Pattern.{token}
 use Rattle.pattern.specs.Answers.{tokenEnd}
-use Rattle.pretokenize.specs.Place.{Ready}
-use Rattle.pretokenize.specs.Scan.{span, Known, Advanced}
+use Rattle.scanners.specs.Place.{Ready}
+use Rattle.scanners.specs.Scan.{span, Known, Advanced}
 use Rattle.pretokenize.proofs.Groups.{leaves-known}
 
 abbrev pub part : List ℕ → ℕ → List ℕ

@@ -1,10 +1,10 @@
 // The entry points: each makes the checks first, in their order, and hands a refusal on whole.
-use crate::o200k_family::Advance;
-use crate::o200k_family::advance_pos;
-use crate::o200k_family::byte_at;
 use classes::Table;
 use classes::table;
 use pattern::Options;
+use scanners::Advance;
+use scanners::advance_pos;
+use scanners::byte_at;
 use utf8::Checked;
 use utf8::check;
 ghost use mathlib.Core.Path.{_≡_};
@@ -14,8 +14,8 @@ ghost use lib.ListN.{length};
 ghost use Rattle.utf8.specs.Utf8.{pick, chars, Valid, charStart, within};
 ghost use Rattle.classes.specs.Rows.{table};
 ghost use Rattle.pattern.specs.Answers.{passes, checks, nextEnd, tokenBytes, fill, fillList};
-ghost use Rattle.pretokenize.specs.Place.{Ready};
-ghost use Rattle.pretokenize.specs.Scan.{Known, Advanced};
+ghost use Rattle.scanners.specs.Place.{Ready};
+ghost use Rattle.scanners.specs.Scan.{Known, Advanced};
 ghost use Rattle.pretokenize.specs.Entry.{number, place, verdict, said, filled, tokenPlace, stepEnd, moved};
 
 // The longest text that is taken, in bytes.

@@ -11,7 +11,7 @@ use Rattle.utf8.specs.Utf8.{charsAt}
 use Rattle.pattern.specs.Answers.{limit, tokenEnd}
 use Rattle.pattern.proofs.Accepted.{accepted, on}
 use Rattle.pattern.proofs.Walk.{end-on, end-past}
-use Rattle.pretokenize.specs.Scan.{Known}
+use Rattle.scanners.specs.Scan.{Known}
 use Rattle.pretokenize.proofs.Part.{part-some, part-ready, part-end, part-known, known-next}
 use Rattle.pretokenize.proofs.Filling.{Filling, begins, turns, stops-full, stops-over}
 use Rattle.pretokenize.proofs.entry.fill_from.Statement.{statement}
