@@ -17,7 +17,7 @@ abbrev pub ascii : String → List ℕ
 ascii []ˢ = []
 ascii (c ∷ˢ cs) = code c ∷ ascii cs
 
--- a number's digits in base ten, no zero in front, where it has no more than so many: n has no more than n + 1
+-- the digits of n in base ten, no zero in front, at most k of them; n + 1 are enough
 abbrev pub decimalIn : ℕ → ℕ → List ℕ
 decimalIn zero n = []
 decimalIn (suc k) n = pick (ltb n 10) ((48 + n) ∷ []) (decimalIn k (n / 10) ++ ((48 + n % 10) ∷ []))

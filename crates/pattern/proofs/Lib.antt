@@ -12,3 +12,4 @@ pub mod Published
 pub mod Examples
 pub mod Unique
 pub mod Refused
+pub mod Edges

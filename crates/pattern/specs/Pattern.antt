@@ -7,9 +7,11 @@ use Rattle.classes.specs.declared.Class.the-variants.{Upper, Lower, Caseless, M
 use Rattle.pattern.specs.declared.Options.{Options}
 use Rattle.pattern.specs.Regex.{Item, char, kind, letter, nonWhite, Set, just, among, except, Piece, one, opt, many, some, upToThree, notAhead, anyCase?, thirds, first}
 
+-- the named setting: contractions yes, digit mode 1, slash yes
 abbrev pub o200k : Options
 o200k = record { contractions = true; digits = 1; slash = true }
 
+-- the characters of a string, as items of a set
 abbrev pub chars : String → List Item
 chars []ˢ = []
 chars (a ∷ˢ s) = char a ∷ chars s
@@ -25,6 +27,7 @@ upperish = among (kind Upper ∷ kind Caseless ∷ kind Mark ∷ [])
 abbrev pub lowerish : Set
 lowerish = among (kind Lower ∷ kind Caseless ∷ kind Mark ∷ [])
 
+-- the suffixes, each letter in either case
 abbrev pub suffixes : List String
 suffixes = "'s" ∷ "'t" ∷ "'re" ∷ "'ve" ∷ "'m" ∷ "'ll" ∷ "'d" ∷ []
 

@@ -31,6 +31,7 @@ pub enum Refusal {
 }
 
 impl Refusal {
+    // The number of the refusal in document 01's table.
     pub fn number(self) -> u32
         ensures { λ r. ⌜ r ≡ number self ⌝ }
     {
@@ -43,6 +44,7 @@ impl Refusal {
         }
     }
 
+    // The place that the table gives with it.
     pub fn place(self) -> usize
         ensures { λ r. ⌜ r ≡ place self ⌝ }
     {
@@ -56,6 +58,7 @@ impl Refusal {
     }
 }
 
+// That a call passes, or why it is refused.
 pub enum Verdict {
     Passed,
     Refused(Refusal),
@@ -105,7 +108,7 @@ fn char_start(text: &[u8], at: usize) -> usize
     i
 }
 
-// The checks, in their order.
+// The checks, in their order: the first that fails is the refusal.
 pub fn checked(text: &[u8], o: Options, start: usize) -> Verdict
     ensures { λ r. ⌜ verdict r ≡ checks o (now (text .entry)) start ⌝ }
 {
@@ -182,7 +185,7 @@ fn fill_from(t: &Table, text: &[u8], o: Options, start: usize, ends: &mut [u32])
     Filled::Ends(count, at)
 }
 
-// The ends of the tokens from a start on, as many as there is room and text for.
+// The ends of the tokens from a start on, as many as there is room and text for. On a refusal `ends` stays as it was.
 pub fn fill(text: &[u8], o: Options, start: usize, ends: &mut [u32]) -> Filled
     ensures { λ r. ⌜ (filled start r ≡ fill o (now (text .entry)) start (length (now (ends .entry)))) × (now (ends .exit) ≡ fillList o (now (text .entry)) start (now (ends .entry))) ⌝ }
 {
@@ -196,7 +199,7 @@ pub fn fill(text: &[u8], o: Options, start: usize, ends: &mut [u32]) -> Filled
     }
 }
 
-// The end of the token at a start: what a fill with room for one end finds.
+// The end of the token at a start, that the text has ended there, or the refusal: what a fill with room for one end finds.
 pub fn next_end(text: &[u8], o: Options, start: usize) -> NextEnd
     ensures { λ r. ⌜ said r ≡ nextEnd o (now (text .entry)) start ⌝ }
 {
@@ -226,7 +229,8 @@ pub fn token(text: &[u8], o: Options, start: usize) -> &[u8]
 }
 
 impl Walker {
-    // One token on: the answer of `next_end` at the walker's place, and the walker moved to the token's end.
+    // One token on: the answer of `next_end` at the walker's place, and the walker at the token's end; at the end of the text or on
+    // a refusal it comes back unmoved.
     pub fn step(self, text: &[u8]) -> Step
         ensures { λ r. ⌜ (said (r .answer) ≡ stepEnd self (now (text .entry))) × (r .walker ≡ moved self (now (text .entry))) ⌝ }
     {

@@ -507,15 +507,23 @@ fn ws_token_end(t: &Table, bytes: &[u8]) -> usize
     }
 }
 
+// The end of the number character at a place, if one stands there.
+fn number_end(t: &Table, bytes: &[u8], pos: usize) -> Ended
+    requires { ⌜ Ready (now t) (now bytes) pos ⌝ }
+    ensures { λ r. ⌜ r ≡ ended number pos (charsAt (now (bytes .entry)) pos) ⌝ }
+{
+    kind_end(t, bytes, pos, Kind::Number)
+}
+
 // Up to two more number characters.
 fn scan_numbers_max3(t: &Table, bytes: &[u8], pos: usize) -> usize
     requires { ⌜ Ready (now t) (now bytes) pos ⌝ }
     ensures { λ r. ⌜ r ≡ pos + span (min (run number (charsAt (now (bytes .entry)) pos)) 2) (charsAt (now (bytes .entry)) pos) ⌝ }
 {
-    let d = kind_end(t, bytes, pos, Kind::Number);
+    let d = number_end(t, bytes, pos);
     match d {
         Ended::At(e) => {
-            let f = kind_end(t, bytes, e, Kind::Number);
+            let f = number_end(t, bytes, e);
             match f {
                 Ended::At(g) => g,
                 Ended::No => e,
@@ -533,7 +541,7 @@ fn count_numbers(t: &Table, bytes: &[u8], pos: usize) -> usize
     let mut n = 0;
     let mut p = pos;
     loop {
-        let d = kind_end(t, bytes, p, Kind::Number);
+        let d = number_end(t, bytes, p);
         match d {
             Ended::At(e) => {
                 p = e;
@@ -551,7 +559,7 @@ fn right_aligned_digit_end(t: &Table, bytes: &[u8], first_end: usize) -> Advance
     requires { ⌜ ended number 0 (chars (now bytes)) ≡ Ended.At «first_end» ⌝ }
     ensures { λ r. ⌜ Digits 2 (chars (now (bytes .entry))) (r .len) (r .groups) ⌝ }
 {
-    let d = kind_end(t, bytes, first_end, Kind::Number);
+    let d = number_end(t, bytes, first_end);
     match d {
         Ended::At(second) => right_past_two(t, bytes, first_end, second),
         Ended::No => Advance {
@@ -568,7 +576,7 @@ fn right_past_two(t: &Table, bytes: &[u8], first: usize, second: usize) -> Advan
     requires { ⌜ ended number first (charsAt (now bytes) first) ≡ Ended.At second ⌝ }
     ensures { λ r. ⌜ Digits 2 (chars (now (bytes .entry))) (r .len) (r .groups) ⌝ }
 {
-    let d = kind_end(t, bytes, second, Kind::Number);
+    let d = number_end(t, bytes, second);
     match d {
         Ended::At(third) => aligned(first, second, third, count_numbers(t, bytes, third)),
         Ended::No => Advance {

@@ -104,7 +104,7 @@ Valid bs = validLength bs ≡ length bs
 unfoldable pub checked : List ℕ → Checked
 checked bs = pick (eqb (validLength bs) (length bs)) Sound (BadAt (validLength bs))
 
--- the place of the first byte of the character that a place is in
+-- of a text with these characters, the place of the first byte of the character that a place is in
 unfoldable pub charStart : List ℕ → ℕ → ℕ
 charStart [] at = 0
 charStart (c ∷ cs) at = pick (ltb at (width c)) 0 (width c + charStart cs (at - width c))

@@ -20,7 +20,7 @@ abbrev μ-loop : tie.MeasureT-loop
 μ-loop t bytes pos n₀ p₀ n p = length bytes - p
 
 passed : (c : tie.After-known-told Inv-loop μ-loop) → Went number (c .before .before .before .before .before .before .args .bytes .now) (c .before .before .before .before .loop .p) (c .before .d .given .0 .0)
-passed c = goes number _ _ (c .before .before .before .before .loop .inv .0) (sym (c .before .before .before .kind-end .ensures) ∙ c .before .d .given .1)
+passed c = goes number _ _ (c .before .before .before .before .loop .inv .0) (sym (c .before .before .before .number-end .ensures) ∙ c .before .d .given .1)
 
 loop-holds : tie.Need-loop-holds Inv-loop μ-loop
 loop-holds c = (c .before .pre .whole, omega arith, omega arith)
@@ -34,7 +34,7 @@ loop-again c = let g = passed c in (g .whole, omega (arith, g .count, c .before 
 returns : tie.Need-returns Inv-loop μ-loop
 returns c =
     let l = c .before .before .before .loop in
-    omega (arith, l .inv .1, stops-count number _ _ (l .inv .0) (sym (c .before .before .kind-end .ensures) ∙ c .enum-told .given .1))
+    omega (arith, l .inv .1, stops-count number _ _ (l .inv .0) (sym (c .before .before .number-end .ensures) ∙ c .enum-told .given .1))
 
 pub count-numbers-spec : {M : Type 1} → statement M
 count-numbers-spec =
