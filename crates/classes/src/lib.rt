@@ -123,7 +123,7 @@ fn white_or_other(c: u32) -> Class
 }
 
 // The class of c by the table that is lent.
-pub fn class_at(t: &Table, c: u32) -> Class
+pub fn class_at(t: &[u32], c: u32) -> Class
     ensures { λ r. ⌜ r ≡ classAt (now (t .entry)) c ⌝ }
 {
     let l = scan_rows(t, c);

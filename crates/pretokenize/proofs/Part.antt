@@ -3,17 +3,16 @@ use Prim.Native.Nat.{ℕ, _+_, _-_, _<_}
 use mathlib.Core.List.{List}
 use mathlib.Core.Path.{_≡_, ap, _∙_, sym, subst}
 use native.Mathlib.Omega.{arith}
-use lib.ListN.{length, take, drop, length-drop}
-use lib.Seq.{drop-drop}
+use lib.ListN.{length, getD, take, drop, length-drop}
+use lib.Seq.{drop-drop, getD-drop}
 use Rattle.utf8.specs.Utf8.{chars, charsAt, widths}
 use Rattle.utf8.proofs.At.{to-end, chars-to-end}
 use Rattle.utf8.proofs.Chars.{chars-drop}
 use Rattle.utf8.proofs.Place.{On}
-use Rattle.classes.specs.Rows.{table}
 use Rattle.pattern.specs.declared.Options.{Options}
 use Rattle.pattern.specs.Pattern.{token}
 use Rattle.pattern.specs.Answers.{tokenEnd}
-use Rattle.scanners.specs.Place.{Ready}
+use Rattle.scanners.specs.Place.{Ready, Lent}
 use Rattle.scanners.specs.Scan.{span, Known, Advanced}
 use Rattle.pretokenize.proofs.Groups.{leaves-known}
 
@@ -26,9 +25,13 @@ part-length s at = ap length (to-end s at) ∙ length-drop at s
 pub part-some : (s : List ℕ) (at : ℕ) → at < length s → 0 < length (part s at)
 part-some s at h = omega (arith, part-length s at)
 
-pub part-ready : {t : List ℕ} (s : List ℕ) (at : ℕ) → t ≡ table → On s at → Ready t (part s at) 0
+-- a byte of the part is one of the text, so that the table is lent to the part too
+part-lent : {t : List ℕ} (s : List ℕ) (at : ℕ) → Lent t s → Lent t (part s at)
+part-lent s at e k h = e (at + k) (omega (arith, ap (λ l. getD l k 0) (to-end s at), getD-drop at s k 0))
+
+pub part-ready : {t : List ℕ} (s : List ℕ) (at : ℕ) → Lent t s → On s at → Ready t (part s at) 0
 unfolding charsAt
-part-ready s at e h = record { lent = e; whole = omega (arith, h .rest, ap widths (chars-to-end s at), part-length s at) }
+part-ready s at e h = record { lent = part-lent s at e; whole = omega (arith, h .rest, ap widths (chars-to-end s at), part-length s at) }
 
 -- past the token in front of it
 pub part-end : (o : Options) (s : List ℕ) (at : ℕ) {n : ℕ} → n ≡ span (token o (chars (part s at))) (chars (part s at)) → at + n ≡ tokenEnd o s at

@@ -1,5 +1,4 @@
 // The entry points: each makes the checks first, in their order, and hands a refusal on whole.
-use classes::Table;
 use classes::table;
 use pattern::Options;
 use scanners::Advance;
@@ -7,14 +6,14 @@ use scanners::advance_pos;
 use scanners::byte_at;
 use utf8::Checked;
 use utf8::check;
+use utf8::largest;
 ghost use mathlib.Core.Path.{_≡_};
 ghost use Prim.Native.Nat.{_+_, _-_, _<_, _≤_};
 ghost use lib.Dec.{eqb};
 ghost use lib.ListN.{length};
 ghost use Rattle.utf8.specs.Utf8.{pick, chars, Valid, charStart, within};
-ghost use Rattle.classes.specs.Rows.{table};
 ghost use Rattle.pattern.specs.Answers.{passes, checks, nextEnd, tokenBytes, fill, fillList};
-ghost use Rattle.scanners.specs.Place.{Ready};
+ghost use Rattle.scanners.specs.Place.{Ready, Lent};
 ghost use Rattle.scanners.specs.Scan.{Known, Advanced};
 ghost use Rattle.pretokenize.specs.Entry.{number, place, verdict, said, filled, tokenPlace, stepEnd, moved};
 
@@ -148,7 +147,7 @@ fn groups_past(groups: usize, left: usize) -> usize
 }
 
 // The token in front of some checked text, where so many whole groups of three digits are known to stand there.
-fn next_token(t: &Table, bytes: &[u8], o: Options, groups: usize) -> Advance
+fn next_token(t: &[u32], bytes: &[u8], o: Options, groups: usize) -> Advance
     requires { ⌜ Ready (now t) (now bytes) 0 ⌝ }
     requires { ⌜ 0 < length (now bytes) ⌝ }
     requires { ⌜ Known o (chars (now bytes)) groups ⌝ }
@@ -167,8 +166,8 @@ fn next_token(t: &Table, bytes: &[u8], o: Options, groups: usize) -> Advance
 }
 
 // The ends of the tokens from an accepted start on.
-fn fill_from(t: &Table, text: &[u8], o: Options, start: usize, ends: &mut [u32]) -> Filled
-    requires { ⌜ now t ≡ table ⌝ }
+fn fill_from(t: &[u32], text: &[u8], o: Options, start: usize, ends: &mut [u32]) -> Filled
+    requires { ⌜ Lent (now t) (now text) ⌝ }
     requires { ⌜ checks o (now text) start ≡ passes ⌝ }
     ensures { λ r. ⌜ (filled start r ≡ fill o (now (text .entry)) start (length (now (ends .entry)))) × (now (ends .exit) ≡ fillList o (now (text .entry)) start (now (ends .entry))) ⌝ }
 {
@@ -185,6 +184,19 @@ fn fill_from(t: &Table, text: &[u8], o: Options, start: usize, ends: &mut [u32])
     Filled::Ends(count, at)
 }
 
+// The same with the class table, which is made only for a text with a character outside ASCII.
+fn fill_checked(text: &[u8], o: Options, start: usize, ends: &mut [u32]) -> Filled
+    requires { ⌜ checks o (now text) start ≡ passes ⌝ }
+    ensures { λ r. ⌜ (filled start r ≡ fill o (now (text .entry)) start (length (now (ends .entry)))) × (now (ends .exit) ≡ fillList o (now (text .entry)) start (now (ends .entry))) ⌝ }
+{
+    if largest(text) < 0x80 {
+        let none = [0u32; 1];
+        return fill_from(&none, text, o, start, ends);
+    }
+    let t = table();
+    fill_from(&t, text, o, start, ends)
+}
+
 // The ends of the tokens from a start on, as many as there is room and text for. On a refusal `ends` stays as it was.
 pub fn fill(text: &[u8], o: Options, start: usize, ends: &mut [u32]) -> Filled
     ensures { λ r. ⌜ (filled start r ≡ fill o (now (text .entry)) start (length (now (ends .entry)))) × (now (ends .exit) ≡ fillList o (now (text .entry)) start (now (ends .entry))) ⌝ }
@@ -192,10 +204,7 @@ pub fn fill(text: &[u8], o: Options, start: usize, ends: &mut [u32]) -> Filled
     let verdict = checked(text, o, start);
     match verdict {
         Verdict::Refused(r) => Filled::Refused(r),
-        Verdict::Passed => {
-            let t = table();
-            fill_from(&t, text, o, start, ends)
-        }
+        Verdict::Passed => fill_checked(text, o, start, ends),
     }
 }
 

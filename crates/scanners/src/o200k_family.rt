@@ -4,7 +4,6 @@
 // Rust are values here, `Option` is an enum of the answer, and what the Rust changes in place is handed back anew. `advance_pos`
 // is a choice by the first character and then one scanner, each called from one place.
 use classes::Class;
-use classes::Table;
 use classes::class_at;
 use classes::is_ascii_ws;
 use classes::is_digit;
@@ -149,7 +148,7 @@ fn decode_cp(bytes: &[u8], pos: usize) -> CodePoint
 
 // The character outside ASCII at a place. It is called from two places, so that the compiler keeps it apart and has the ASCII
 // side of `peek_at` in every scanner.
-fn wide_at(t: &Table, bytes: &[u8], pos: usize) -> Seen
+fn wide_at(t: &[u32], bytes: &[u8], pos: usize) -> Seen
     requires { ⌜ Ready (now t) (now bytes) pos ⌝ }
     requires { ⌜ Beyond (now bytes) pos ⌝ }
     ensures { λ r. ⌜ (StandsWide (now (bytes .entry)) pos (r .cp) (r .end)) × (r .class ≡ classOf (r .cp)) ⌝ }
@@ -164,7 +163,7 @@ fn wide_at(t: &Table, bytes: &[u8], pos: usize) -> Seen
 }
 
 // What stands at a place of checked text.
-fn peek_at(t: &Table, bytes: &[u8], pos: usize) -> Peek
+fn peek_at(t: &[u32], bytes: &[u8], pos: usize) -> Peek
     requires { ⌜ Ready (now t) (now bytes) pos ⌝ }
     ensures { λ r. ⌜ Peeks (now (bytes .entry)) pos r ⌝ }
 {
@@ -249,7 +248,7 @@ fn is_ascii_kind(b: u8, kind: Kind) -> bool
 }
 
 // The end of the character at a place, if one of the kind stands there.
-fn kind_end(t: &Table, bytes: &[u8], pos: usize, kind: Kind) -> Ended
+fn kind_end(t: &[u32], bytes: &[u8], pos: usize, kind: Kind) -> Ended
     requires { ⌜ Ready (now t) (now bytes) pos ⌝ }
     ensures { λ r. ⌜ r ≡ ended (inKind kind) pos (charsAt (now (bytes .entry)) pos) ⌝ }
 {
@@ -335,7 +334,7 @@ fn scan_tail(bytes: &[u8], pos: usize, slash: bool) -> usize
 }
 
 // A run of punctuation.
-fn scan_punct_from(t: &Table, bytes: &[u8], pos: usize) -> usize
+fn scan_punct_from(t: &[u32], bytes: &[u8], pos: usize) -> usize
     requires { ⌜ Ready (now t) (now bytes) pos ⌝ }
     ensures { λ r. ⌜ r ≡ pos + runWidth punct (charsAt (now (bytes .entry)) pos) ⌝ }
 {
@@ -408,7 +407,7 @@ fn ascii_moved(b: u8, st: CaseState, end: usize) -> Turn
 }
 
 // A letter run past the character at a place, or before it.
-fn case_turn(t: &Table, bytes: &[u8], pos: usize, st: CaseState) -> Turn
+fn case_turn(t: &[u32], bytes: &[u8], pos: usize, st: CaseState) -> Turn
     requires { ⌜ Ready (now t) (now bytes) pos ⌝ }
     ensures { λ r. ⌜ r ≡ turned st pos (charsAt (now (bytes .entry)) pos) ⌝ }
 {
@@ -421,7 +420,7 @@ fn case_turn(t: &Table, bytes: &[u8], pos: usize, st: CaseState) -> Turn
 }
 
 // The letter run past its first character, if a letter or a mark stands at the place.
-fn letter_run_first(t: &Table, bytes: &[u8], pos: usize) -> Turn
+fn letter_run_first(t: &[u32], bytes: &[u8], pos: usize) -> Turn
     requires { ⌜ Ready (now t) (now bytes) pos ⌝ }
     ensures { λ r. ⌜ r ≡ turned (CaseState.U 0) pos (charsAt (now (bytes .entry)) pos) ⌝ }
 {
@@ -444,7 +443,7 @@ fn case_finish(st: CaseState, pos: usize) -> usize
 }
 
 // The rest of a letter run.
-fn scan_case_run(t: &Table, bytes: &[u8], pos: usize, first: CaseState) -> usize
+fn scan_case_run(t: &[u32], bytes: &[u8], pos: usize, first: CaseState) -> usize
     requires { ⌜ Ready (now t) (now bytes) pos ⌝ }
     ensures { λ r. ⌜ r ≡ caseStop first pos (charsAt (now (bytes .entry)) pos) ⌝ }
 {
@@ -487,7 +486,7 @@ fn either_end(found: bool, end: usize, other: usize) -> usize
 
 // A token of white space: through its last CR or LF; else all of it at the end of the text, and all but its last character, if
 // it has more than one, before anything else.
-fn ws_token_end(t: &Table, bytes: &[u8]) -> usize
+fn ws_token_end(t: &[u32], bytes: &[u8]) -> usize
     requires { ⌜ Ready (now t) (now bytes) 0 ⌝ }
     ensures { λ r. ⌜ r ≡ span (spaceEnd (chars (now (bytes .entry)))) (chars (now (bytes .entry))) ⌝ }
 {
@@ -508,7 +507,7 @@ fn ws_token_end(t: &Table, bytes: &[u8]) -> usize
 }
 
 // The end of the number character at a place, if one stands there.
-fn number_end(t: &Table, bytes: &[u8], pos: usize) -> Ended
+fn number_end(t: &[u32], bytes: &[u8], pos: usize) -> Ended
     requires { ⌜ Ready (now t) (now bytes) pos ⌝ }
     ensures { λ r. ⌜ r ≡ ended number pos (charsAt (now (bytes .entry)) pos) ⌝ }
 {
@@ -516,7 +515,7 @@ fn number_end(t: &Table, bytes: &[u8], pos: usize) -> Ended
 }
 
 // Up to two more number characters.
-fn scan_numbers_max3(t: &Table, bytes: &[u8], pos: usize) -> usize
+fn scan_numbers_max3(t: &[u32], bytes: &[u8], pos: usize) -> usize
     requires { ⌜ Ready (now t) (now bytes) pos ⌝ }
     ensures { λ r. ⌜ r ≡ pos + span (min (run number (charsAt (now (bytes .entry)) pos)) 2) (charsAt (now (bytes .entry)) pos) ⌝ }
 {
@@ -534,7 +533,7 @@ fn scan_numbers_max3(t: &Table, bytes: &[u8], pos: usize) -> usize
 }
 
 // How many number characters stand unbroken.
-fn count_numbers(t: &Table, bytes: &[u8], pos: usize) -> usize
+fn count_numbers(t: &[u32], bytes: &[u8], pos: usize) -> usize
     requires { ⌜ Ready (now t) (now bytes) pos ⌝ }
     ensures { λ r. ⌜ r ≡ run number (charsAt (now (bytes .entry)) pos) ⌝ }
 {
@@ -554,7 +553,7 @@ fn count_numbers(t: &Table, bytes: &[u8], pos: usize) -> usize
 
 // A token of a run of digits that is grouped from the right. The run is counted once: past this token it has a whole number of
 // groups, which are handed on.
-fn right_aligned_digit_end(t: &Table, bytes: &[u8], first_end: usize) -> Advance
+fn right_aligned_digit_end(t: &[u32], bytes: &[u8], first_end: usize) -> Advance
     requires { ⌜ Ready (now t) (now bytes) 0 ⌝ }
     requires { ⌜ ended number 0 (chars (now bytes)) ≡ Ended.At «first_end» ⌝ }
     ensures { λ r. ⌜ Digits 2 (chars (now (bytes .entry))) (r .len) (r .groups) ⌝ }
@@ -570,7 +569,7 @@ fn right_aligned_digit_end(t: &Table, bytes: &[u8], first_end: usize) -> Advance
 }
 
 // The same of a run of two or more, which end at `first` and `second`.
-fn right_past_two(t: &Table, bytes: &[u8], first: usize, second: usize) -> Advance
+fn right_past_two(t: &[u32], bytes: &[u8], first: usize, second: usize) -> Advance
     requires { ⌜ Ready (now t) (now bytes) 0 ⌝ }
     requires { ⌜ ended number 0 (chars (now bytes)) ≡ Ended.At first ⌝ }
     requires { ⌜ ended number first (charsAt (now bytes) first) ≡ Ended.At second ⌝ }
@@ -606,7 +605,7 @@ fn aligned(first: usize, second: usize, third: usize, more: usize) -> Advance
 }
 
 // A token of a run of digits whose first ends at `first_end`, by digit mode.
-fn digit_token_end(t: &Table, bytes: &[u8], first_end: usize, digits: u8) -> Advance
+fn digit_token_end(t: &[u32], bytes: &[u8], first_end: usize, digits: u8) -> Advance
     requires { ⌜ Ready (now t) (now bytes) 0 ⌝ }
     requires { ⌜ ended number 0 (chars (now bytes)) ≡ Ended.At «first_end» ⌝ }
     ensures { λ r. ⌜ Digits digits (chars (now (bytes .entry))) (r .len) (r .groups) ⌝ }
@@ -636,7 +635,7 @@ fn letters_or(m: Turn, other: Start) -> Start
 }
 
 // Past a prefix that ends at a place: a letter run, or what the prefix is by itself.
-fn prefixed_start(t: &Table, bytes: &[u8], pos: usize, blank: bool) -> Start
+fn prefixed_start(t: &[u32], bytes: &[u8], pos: usize, blank: bool) -> Start
     requires { ⌜ Ready (now t) (now bytes) pos ⌝ }
     ensures { λ r. ⌜ r ≡ prefixedStart blank pos (charsAt (now (bytes .entry)) pos) ⌝ }
 {
@@ -686,7 +685,7 @@ fn space_ascii(b: u8) -> Start
 }
 
 // Past a space in front.
-fn after_space(t: &Table, bytes: &[u8]) -> Start
+fn after_space(t: &[u32], bytes: &[u8]) -> Start
     requires { ⌜ Ready (now t) (now bytes) 1 ⌝ }
     ensures { λ r. ⌜ r ≡ afterSpace (charsAt (now (bytes .entry)) 1) ⌝ }
 {
@@ -703,7 +702,7 @@ fn after_space(t: &Table, bytes: &[u8]) -> Start
 }
 
 // A token that begins with an ASCII byte.
-fn ascii_start(t: &Table, bytes: &[u8], b: u8) -> Start
+fn ascii_start(t: &[u32], bytes: &[u8], b: u8) -> Start
     requires { ⌜ Ready (now t) (now bytes) 1 ⌝ }
     requires { ⌜ b < 0x80 ⌝ }
     ensures { λ r. ⌜ r ≡ firstStart (classOf b) b (charsAt (now (bytes .entry)) 1) ⌝ }
@@ -724,7 +723,7 @@ fn ascii_start(t: &Table, bytes: &[u8], b: u8) -> Start
 }
 
 // A token that begins with a character outside ASCII, which ends at a place.
-fn wide_start(t: &Table, bytes: &[u8], cp: u32, end: usize, k: Class) -> Start
+fn wide_start(t: &[u32], bytes: &[u8], cp: u32, end: usize, k: Class) -> Start
     requires { ⌜ Ready (now t) (now bytes) end ⌝ }
     requires { ⌜ (0x80 ≤ cp) × (end ≡ width cp) × (k ≡ classOf cp) ⌝ }
     ensures { λ r. ⌜ r ≡ firstStart (classOf cp) cp (charsAt (now (bytes .entry)) end) ⌝ }
@@ -742,7 +741,7 @@ fn wide_start(t: &Table, bytes: &[u8], cp: u32, end: usize, k: Class) -> Start
 }
 
 // Which scanner the token in front is for, from where and in which state.
-fn start_of(t: &Table, bytes: &[u8]) -> Start
+fn start_of(t: &[u32], bytes: &[u8]) -> Start
     requires { ⌜ Ready (now t) (now bytes) 0 ⌝ }
     ensures { λ r. ⌜ r ≡ startOf (chars (now (bytes .entry))) ⌝ }
 {
@@ -755,7 +754,7 @@ fn start_of(t: &Table, bytes: &[u8]) -> Start
 }
 
 // The token in front of some checked text: its length, and the groups that it leaves of a run of digits.
-pub fn advance_pos(t: &Table, bytes: &[u8], o: Options) -> Advance
+pub fn advance_pos(t: &[u32], bytes: &[u8], o: Options) -> Advance
     requires { ⌜ Ready (now t) (now bytes) 0 ⌝ }
     requires { ⌜ 0 < length (now bytes) ⌝ }
     ensures { λ r. ⌜ Advanced o (chars (now (bytes .entry))) (r .len) (r .groups) ⌝ }

@@ -6,5 +6,6 @@ pub mod Chars
 pub mod Inverse
 pub mod Place
 pub mod At
+pub mod LargestByte
 pub mod Unique
 pub mod Wide

@@ -2,6 +2,7 @@
 ghost use mathlib.Core.Path.{_≡_};
 ghost use lib.ListN.{getD, length};
 ghost use Prim.Native.Nat.{ℕ, _+_, _*_, _%_, _≤_, _<_};
+ghost use Rattle.utf8.specs.LargestByte.{larger, largest};
 ghost use Rattle.utf8.specs.Utf8.{leadOf, decodeAt, checked, within as between, from2, from3, from4};
 
 // What a lead byte says: the length of its sequence, and the range of its second byte where there is more than one.
@@ -117,8 +118,8 @@ pub fn decode(text: &[u8], at: usize) -> Decoded
 }
 
 // The largest byte of text, 0 if it has none. There is no branch in the loop, so that the compiler takes many bytes at once.
-fn largest(text: &[u8]) -> u8
-    ensures { λ r. ⌜ ((k : ℕ) → k < length (now (text .entry)) → getD (now (text .entry)) k 0 ≤ r) ⌝ }
+pub fn largest(text: &[u8]) -> u8
+    ensures { λ r. ⌜ r ≡ largest (now (text .entry)) ⌝ }
 {
     let mut most: u8 = 0;
     let mut i = 0;
@@ -130,7 +131,7 @@ fn largest(text: &[u8]) -> u8
 }
 
 fn larger(a: u8, b: u8) -> u8
-    ensures { λ r. ⌜ (a ≤ r) × (b ≤ r) ⌝ }
+    ensures { λ r. ⌜ r ≡ larger a b ⌝ }
 {
     if a < b { b } else { a }
 }

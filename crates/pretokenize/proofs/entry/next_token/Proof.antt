@@ -8,7 +8,7 @@ use Rattle.pretokenize.proofs.entry.next_token.Tie as tie
 returns : tie.Need-returns
 returns c =
     let a = c .before .before .before .before in
-    next-known (a .args .o) _ (a .args .groups) (a .pre .1 .1) (c .before .before .mode-for .ensures) (c .before .advance-pos .ensures) (c .groups-past .ensures)
+    next-known (a .before .args .o) _ (a .before .args .groups) (a .before .pre .1 .1) (c .before .before .mode-for .ensures) (c .before .advance-pos .ensures) (c .groups-past .ensures)
 
 pub next-token-spec : {M : Type 1} → statement M
 next-token-spec = tie.close (tie.spec (λ c κs. search needs) (λ c κs. search needs) (λ c κs. search needs) returns)

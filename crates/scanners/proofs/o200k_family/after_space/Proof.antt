@@ -13,7 +13,7 @@ returns c = space-none (stands-none _ _ (c .if1 .taken))
 
 returns-2 : tie.Need-returns-2
 returns-2 c =
-    let h = stands-ascii _ _ (c .before .before .before .before .before .pre .whole) (c .before .before .before .if1 .left) refl (c .before .if2 .taken) in
+    let h = stands-ascii _ _ (c .before .before .before .before .before .before .pre .whole) (c .before .before .before .if1 .left) refl (c .before .if2 .taken) in
     c .space-ascii .ensures ∙ space-at _ _ 2 (h .here)
 
 returns-3 : tie.Need-returns-3

@@ -16,25 +16,25 @@ use Rattle.scanners.proofs.o200k_family.ascii_start.Tie as tie
 
 returns : tie.Need-returns
 returns c =
-    let b = c .before .before .before .before .args .b in
+    let b = c .before .before .before .before .before .args .b in
     ap (Letters 1) (c .ascii-letter-state .ensures) ∙ ascii-letter b _ _ (omega arith) (sym (c .before .before .is-letter .ensures ∙ letter-test b (omega arith)) ∙ c .before .if1 .taken) (ascii-plain b (omega arith)) (sym (class-test b (omega arith) Upper))
 
 returns-2 : tie.Need-returns-2
-returns-2 c = let b = c .before .before .before .before .before .args .b in c .after-space .ensures ∙ first-space b _ (eq-eqb b 32 (c .before .if2 .taken))
+returns-2 c = let b = c .before .before .before .before .before .before .args .b in c .after-space .ensures ∙ first-space b _ (eq-eqb b 32 (c .before .if2 .taken))
 
 returns-3 : tie.Need-returns-3
 returns-3 c =
-    let b = c .before .before .before .before .before .before .args .b in
+    let b = c .before .before .before .before .before .before .before .args .b in
     ascii-number b _ (omega arith) (sym (c .before .is-digit .ensures ∙ class-test b (omega arith) Number) ∙ c .if3 .taken)
 
 returns-4 : tie.Need-returns-4
-returns-4 c = let b = c .before .before .before .before .before .before .before .before .args .b in first-newline b _ (sym (c .before .is-newline .ensures) ∙ c .if4 .taken)
+returns-4 c = let b = c .before .before .before .before .before .before .before .before .before .args .b in first-newline b _ (sym (c .before .is-newline .ensures) ∙ c .if4 .taken)
 
 returns-5 : tie.Need-returns-5
 returns-5 c =
     let a = c .before .before .before .before .before .before .before .before in
-    let b = a .before .before .args .b in
-    c .prefixed-start .ensures ∙ ap (λ w. prefixedStart w 1 (charsAt (a .before .before .args .bytes .now) 1)) (c .before .is-ascii-ws .ensures ∙ class-test b (omega arith) Whitespace)
+    let b = a .before .before .before .args .b in
+    c .prefixed-start .ensures ∙ ap (λ w. prefixedStart w 1 (charsAt (a .before .before .before .args .bytes .now) 1)) (c .before .is-ascii-ws .ensures ∙ class-test b (omega arith) Whitespace)
     ∙ ascii-prefix b _ (omega arith) (sym (a .is-letter .ensures ∙ letter-test b (omega arith)) ∙ c .before .before .before .before .before .before .before .if1 .left) (ascii-plain b (omega arith))
     (sym (c .before .before .before .before .before .is-digit .ensures ∙ class-test b (omega arith) Number) ∙ c .before .before .before .before .if3 .left)
     (sym (c .before .before .before .is-newline .ensures) ∙ c .before .before .if4 .left) (ne-eqb b 32 (c .before .before .before .before .before .before .if2 .left))

@@ -16,14 +16,14 @@ returns c = ended-none _ _ _ (subst (Peeks _ _) (c .enum-told .given .1) (c .bef
 returns-2 : tie.Need-returns-2
 returns-2 c =
     let a = c .before .before .before .before .before in
-    let h = subst (Peeks (a .before .before .args .bytes .now) (a .before .before .args .pos)) (c .before .before .before .p .given .1) (a .peek-at .ensures) in
-    c .ended-if .ensures ∙ ended-at (inKind (a .before .before .args .kind)) _ _ _ (h .here) (c .before .is-ascii-kind .ensures)
+    let h = subst (Peeks (a .before .before .before .args .bytes .now) (a .before .before .before .args .pos)) (c .before .before .before .p .given .1) (a .peek-at .ensures) in
+    c .ended-if .ensures ∙ ended-at (inKind (a .before .before .before .args .kind)) _ _ _ (h .here) (c .before .is-ascii-kind .ensures)
 
 returns-3 : tie.Need-returns-3
 returns-3 c =
     let a = c .before .before .before .before .before in
-    let kind = a .before .before .args .kind in
-    let h = subst (Peeks (a .before .before .args .bytes .now) (a .before .before .args .pos)) (c .before .before .before .p2 .given .1) (a .peek-at .ensures) in
+    let kind = a .before .before .before .args .kind in
+    let h = subst (Peeks (a .before .before .before .args .bytes .now) (a .before .before .before .args .pos)) (c .before .before .before .p2 .given .1) (a .peek-at .ensures) in
     c .ended-if2 .ensures ∙ ended-at (inKind kind) _ _ _ (h .0 .here) (c .before .is-kind .ensures ∙ ap (isOf kind) (h .1) ∙ kind-class kind _)
 
 pub kind-end-spec : {M : Type 1} → statement M
@@ -34,7 +34,7 @@ kind-end-spec =
     (λ c. search needs)
     (λ c. search needs)
     (λ c κs.
-    let h = subst (Peeks (c .before .before .before .before .before .args .bytes .now) (c .before .before .before .before .before .args .pos)) (c .before .p .given .1) (c .before .before .before .peek-at .ensures) in
+    let h = subst (Peeks (c .before .before .before .before .before .before .args .bytes .now) (c .before .before .before .before .before .before .args .pos)) (c .before .p .given .1) (c .before .before .before .peek-at .ensures) in
     omega (arith, h .low))
     (λ c. search needs)
     (λ c κs. search needs)

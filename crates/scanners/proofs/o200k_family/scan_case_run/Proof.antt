@@ -19,11 +19,11 @@ abbrev μ-loop : tie.MeasureT-loop
 μ-loop t bytes pos p₀ st₀ p st = length bytes - p
 
 goes : (c : tie.After-known-told Inv-loop μ-loop)
-    → let l = c .before .before .before .before .loop in CaseWent (c .before .before .before .before .before .before .args .bytes .now) (l .p) (l .st) (c .before .m .given .0 .0) (c .before .m .given .0 .1 .0)
+    → let l = c .before .before .before .before .loop in CaseWent (c .before .before .before .before .before .before .before .args .bytes .now) (l .p) (l .st) (c .before .m .given .0 .0) (c .before .m .given .0 .1 .0)
 goes c = case-goes _ _ _ (c .before .before .before .before .loop .inv .0) (sym (c .before .before .before .case-turn .ensures) ∙ c .before .m .given .1)
 
 loop-holds : tie.Need-loop-holds Inv-loop μ-loop
-loop-holds c = (c .before .pre .whole, refl)
+loop-holds c = (c .before .before .pre .whole, refl)
 
 loop-less : tie.Need-loop-less Inv-loop μ-loop
 loop-less c = let g = goes c in omega (arith, g .past, g .whole)
@@ -43,7 +43,7 @@ scan-case-run-spec =
     Inv-loop
     μ-loop
     loop-holds
-    (λ c κs. record { lent = c .before .before .pre .lent; whole = c .loop .inv .0 })
+    (λ c κs. record { lent = c .before .before .before .pre .lent; whole = c .loop .inv .0 })
     (λ c. search needs)
     loop-less
     loop-again

@@ -11,20 +11,20 @@ use Rattle.scanners.proofs.o200k_family.start_of.Tie as tie
 
 returns : tie.Need-returns
 unfolding charsAt
-returns c = start-none (subst (Peeks (c .before .before .before .before .args .bytes .now) 0) (c .enum-told .given .1) (c .before .before .peek-at .ensures))
+returns c = start-none (subst (Peeks (c .before .before .before .before .before .args .bytes .now) 0) (c .enum-told .given .1) (c .before .before .peek-at .ensures))
 
 returns-2 : tie.Need-returns-2
 unfolding charsAt
 returns-2 c =
     let a = c .before .before .before .before in
-    let h = subst (Peeks (a .before .before .args .bytes .now) 0) (c .before .before .p .given .1) (a .peek-at .ensures) in
+    let h = subst (Peeks (a .before .before .before .args .bytes .now) 0) (c .before .before .p .given .1) (a .peek-at .ensures) in
     c .ascii-start .ensures ∙ start-at _ 0 _ 1 (h .here)
 
 returns-3 : tie.Need-returns-3
 unfolding charsAt
 returns-3 c =
     let a = c .before .before .before .before in
-    let h = subst (Peeks (a .before .before .args .bytes .now) 0) (c .before .before .p2 .given .1) (a .peek-at .ensures) in
+    let h = subst (Peeks (a .before .before .before .args .bytes .now) 0) (c .before .before .p2 .given .1) (a .peek-at .ensures) in
     c .wide-start .ensures ∙ start-at _ 0 _ _ (h .0 .here)
 
 pub start-of-spec : {M : Type 1} → statement M
@@ -36,13 +36,13 @@ start-of-spec =
     (λ c. search needs)
     (λ c κs.
     let a = c .before .before .before .before .before in
-    let h = subst (Peeks (a .args .bytes .now) 0) (c .before .p .given .1) (c .before .before .before .peek-at .ensures) in
-    (record { lent = a .pre .lent; whole = h .here .whole }, omega (arith, h .low)))
+    let h = subst (Peeks (a .before .args .bytes .now) 0) (c .before .p .given .1) (c .before .before .before .peek-at .ensures) in
+    (record { lent = a .before .pre .lent; whole = h .here .whole }, omega (arith, h .low)))
     (λ c. search needs)
     (λ c κs.
     let a = c .before .before .before .before .before in
-    let h = subst (Peeks (a .args .bytes .now) 0) (c .before .p2 .given .1) (c .before .before .before .peek-at .ensures) in
-    (record { lent = a .pre .lent; whole = h .0 .here .whole }, (h .0 .high, omega (arith, h .0 .here .wide), h .1)))
+    let h = subst (Peeks (a .before .args .bytes .now) 0) (c .before .p2 .given .1) (c .before .before .before .peek-at .ensures) in
+    (record { lent = a .before .pre .lent; whole = h .0 .here .whole }, (h .0 .high, omega (arith, h .0 .here .wide), h .1)))
     returns
     returns-2
     returns-3)
