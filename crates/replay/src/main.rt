@@ -8,7 +8,7 @@ use pattern::Options;
 use pretokenize::Filled;
 use pretokenize::Refusal;
 ghost use mathlib.Core.Path.{_≡_};
-ghost use Prim.Native.Nat.{_≤_, _<_};
+ghost use Prim.Native.Nat.{_≤_};
 ghost use lib.ListN.{length};
 
 // A number of the line, and where the next field begins.

@@ -1,7 +1,6 @@
 // UTF-8: one character at a place of some bytes, and the place of the first ill-formed sequence of a text.
 ghost use mathlib.Core.Path.{_≡_};
-ghost use lib.ListN.{getD, length};
-ghost use Prim.Native.Nat.{ℕ, _+_, _*_, _%_, _≤_, _<_};
+ghost use lib.ListN.{getD};
 ghost use Rattle.utf8.specs.LargestByte.{larger, largest};
 ghost use Rattle.utf8.specs.Utf8.{leadOf, decodeAt, checked, within as between, from2, from3, from4};
 
