@@ -40,12 +40,14 @@ enum {
    is 0; `ends` is aligned; what is written to overlaps neither the text nor one another. `digits` is the digit mode, 0, 1 or 2. */
 
 /* Gives the refusal's number, or 0 and in `*at` the end of the token at `start`: `start` itself exactly at the end of the text.
-   On a refusal `*at` is its place. Every call checks the whole text, so use njuxaleet_fill for a walk. */
+   On a refusal `*at` is its place. Every call checks the whole text, so use one njuxaleet_fill for a walk. */
 uint32_t njuxaleet_next_end(const uint8_t *text, size_t len, bool contractions, uint8_t digits, bool slash, size_t start,
                             size_t *at);
 
 /* Writes the ends of the tokens from `start` on, as many as there is room and text for; `*count` of them, and `*at` the next start.
-   On a refusal gives its number, writes nothing to `ends`, and has `*count` 0 and `*at` its place. */
+   On a refusal gives its number, writes nothing to `ends`, and has `*count` 0 and `*at` its place.
+   Every call checks the whole text: a walk by fills with little room takes the square of the text's length, one fill with room for
+   every end (`len` is enough) is linear. */
 uint32_t njuxaleet_fill(const uint8_t *text, size_t len, bool contractions, uint8_t digits, bool slash, size_t start,
                         uint32_t *ends, size_t room, size_t *count, size_t *at);
 
@@ -80,7 +82,8 @@ static inline uint32_t njx_next_end(const void *text, size_t len, njx_options op
 }
 
 /* As njuxaleet_fill: 0, `*count` ends in `ends`, and the next start in `*at`; entries past the count are kept.
-   Or the refusal's number, `*count` 0 and its place in `*at`. A room of `len` is enough for every end. */
+   Or the refusal's number, `*count` 0 and its place in `*at`. A room of `len` is enough for every end,
+   and then one call is linear; a walk by calls with little room takes the square of the text's length. */
 static inline uint32_t njx_fill(const void *text, size_t len, njx_options options, size_t start, uint32_t *ends, size_t room,
                                 size_t *count, size_t *at) {
     const uint8_t nothing = 0;
