@@ -5,11 +5,11 @@
 
 use oracle::Options;
 use std::ffi::{CStr, CString, c_char, c_int, c_void};
-use std::fs;
+use std::path::PathBuf;
 use std::ptr::{null, null_mut};
 use std::time::Instant;
+use std::{env, fs};
 
-const UNICODE: &str = "/usr/share/unicode";
 const SUFFIX: &str = "(?i:'s|'t|'re|'ve|'m|'ll|'d)?";
 
 /// How the classes of the pattern are written.
@@ -113,7 +113,8 @@ impl Classes {
         if spelling == Spelling::Published {
             return Ok(Classes::Own);
         }
-        let read = |name| fs::read_to_string(format!("{UNICODE}/{name}")).map_err(|_| format!("{name} is missing"));
+        let folder = PathBuf::from(env::var_os("UNICODE_DATA").unwrap_or_else(|| "/usr/share/unicode".into()));
+        let read = |name| fs::read_to_string(folder.join(name)).map_err(|_| format!("{name} is missing"));
         let categories = categories(&read("UnicodeData.txt")?);
         let space = read("PropList.txt")?.lines().filter_map(space_row).collect();
         Ok(Classes::Official { categories, space })
