@@ -63,7 +63,7 @@ agree-at f g (suc n) e b h =
     let t = passed (equal (f n) (g n)) e in
     by-le n b (λ l. let q : b ≡ n = omega arith in rw q (equal-true (f n) (g n) (t .0))) (λ l. agree-at f g n (t .1) b l)
 
-abbrev pub isBlank : ℕ → Bool
+abbrev isBlank : ℕ → Bool
 isBlank b = pick (eqb b 32) true (within 9 b 13)
 
 -- a test of bytes that agrees with a test of their classes where they are ASCII, and fails elsewhere
@@ -91,7 +91,7 @@ pub ascii-plain : (b : ℕ) → b < 0x80 → (same Caseless (classOf b) || same 
 unfolding ranges whiteSpace classIn
 ascii-plain b h =
     ap (λ k. same Caseless k || same Mark k) (ascii-class b (omega arith))
-    ∙ agree-at (λ b. same Caseless (asciiClass b) || same Mark (asciiClass b)) (λ b. false) 128 refl b h
+    ∙ agree-at (λ b. same Caseless (asciiClass b) || same Mark (asciiClass b)) (λ _. false) 128 refl b h
 
 -- a range of n bytes that begins at a, tested by the wrapped difference
 pub wrapped : (a n b r : ℕ) → r < 256 → b < 256 → 1 ≤ n → a + n ≤ 256 → (r + a) % 2 ^ 8 ≡ b → ltb r n ≡ within a b (a + n - 1)

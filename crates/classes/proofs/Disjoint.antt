@@ -15,7 +15,7 @@ use Rattle.classes.specs.declared.Class.{Class}
 use Rattle.classes.specs.declared.Class.the-variants.{Other}
 
 -- the range holds c
-abbrev pub Holds : Range → ℕ → Type 0
+abbrev Holds : Range → ℕ → Type 0
 Holds r c = within (r .from) c (r .to) ≡ true
 
 pub data In (r : Range) : List Range → Type 0 where

@@ -14,7 +14,7 @@ pub record Row : Type 0 where
   pub sheet : List ℕ
   pub written : String
 
-abbrev pub rows : List Row
+abbrev rows : List Row
 rows =
     record { sheet = []; written = "ends 0\n" } ∷
     record { sheet = ascii "THD 1250"; written = "ends 4\n3\n4\n7\n8\n" } ∷

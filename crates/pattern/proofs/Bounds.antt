@@ -20,7 +20,7 @@ use Rattle.pattern.proofs.Step.{upperish, lowerish, number, white, punc
 use Rattle.pattern.proofs.ClosedForm.{token-is-step}
 
 -- from 1 to l
-abbrev pub Good : ℕ → ℕ → Type 0
+abbrev Good : ℕ → ℕ → Type 0
 Good l n = (1 ≤ n) × (n ≤ l)
 
 abbrev Within : ℕ → Option ℕ → Type 0

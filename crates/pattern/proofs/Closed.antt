@@ -157,12 +157,12 @@ suffix-closed o ys k = rw (words-closed suffixTable refl ys k)
 
 word-closed : (o : Options) (ys : List ℕ) {xs : List ℕ} → Closed xs → wordEnd o (xs ++ ys) ≡ wordEnd o xs
 unfolding wordEnd
-word-closed o ys {xs} k = rw (case-closed ys k) (after-closed (suffixEnd o) (caseEnd xs) ys (λ zs z. suffix-closed o ys z) (case-lt k) k)
+word-closed o ys {xs} k = rw (case-closed ys k) (after-closed (suffixEnd o) (caseEnd xs) ys (λ _ z. suffix-closed o ys z) (case-lt k) k)
 
 punct-closed : (o : Options) (ys : List ℕ) {xs : List ℕ} → run (tail (o .slash)) ys ≡ 0 → Closed xs → punctEnd o (xs ++ ys) ≡ punctEnd o xs
 unfolding punctEnd
 punct-closed o ys {xs} t k = rw (run-closed punct punct-avoids ys k)
-    (after-closed (run (tail (o .slash))) (run punct xs) ys (λ zs z. run-append (tail (o .slash)) zs ys t) (run-lt punct punct-avoids k) k)
+    (after-closed (run (tail (o .slash))) (run punct xs) ys (λ zs _. run-append (tail (o .slash)) zs ys t) (run-lt punct punct-avoids k) k)
 
 -- white space: the last CR or LF of the run is the same, since the run of white space after xs has none
 white-closed : (ys : List ℕ) {xs : List ℕ} → lastIn white newline ys ≡ none → Closed xs → lastIn white newline (xs ++ ys) ≡ lastIn white newline xs

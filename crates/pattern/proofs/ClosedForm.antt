@@ -84,7 +84,7 @@ word-is o (c ∷ cs) = rw (lower-is o (c ∷ cs), upper-is o c cs, run-step uppe
     by Other m r u z = refl
 
 -- what the table says of the characters that the pattern names
-pub is-elim : (P : ℕ → Type 0) (a c : ℕ) → P a → is a c ≡ true → P c
+is-elim : (P : ℕ → Type 0) (a c : ℕ) → P a → is a c ≡ true → P c
 is-elim P a c x e = rw (eqb→eq c a (rw e tt)) x
 
 pub newline-elim : (P : ℕ → Type 0) → P 10 → P 13 → (c : ℕ) → newline c ≡ true → P c
@@ -196,7 +196,7 @@ words-is o c cs = rw (words-open o c cs, ← word-is o cs, prefix-is c)
     by Other b l u l′ u′ w m n = prefixed (not b) l u l′ u′ w
 
 run-total : (p : ℕ → Bool) → trialMany p stop ≡ (λ ds. some (run p ds))
-run-total p = fun-ext λ ds. many-total p (λ es. 0) ds ∙ ap some (add-zero (run p ds))
+run-total p = fun-ext λ ds. many-total p (λ _. 0) ds ∙ ap some (add-zero (run p ds))
 
 down-head : (n : ℕ) (cs : List ℕ) → 1 ≤ n → tryEach (down n) stop cs ≡ some n
 unfolding tryEach down
@@ -262,10 +262,10 @@ spaces-open c cs = refl
 
 spaces-are : (c : ℕ) (cs : List ℕ) → white c ≡ true → spaces (c ∷ cs) ≡ some (spaceEnd (c ∷ cs))
 unfolding spaceEnd
-spaces-are c cs e = rw (spaces-open c cs, many-some white newline (λ ds. 0) (c ∷ cs), shy-is cs, run-total white, run-step white c cs, e)
+spaces-are c cs e = rw (spaces-open c cs, many-some white newline (λ _. 0) (c ∷ cs), shy-is cs, run-total white, run-step white c cs, e)
     (by (lastIn white newline (c ∷ cs)) (isEnd (drop (run white cs) cs)) (run white cs) refl)
   where
-    by : (m : Option ℕ) (e : Bool) (r : ℕ) → isEnd (drop r cs) ≡ e → orElse (mapO (after (λ ds. 0) (c ∷ cs)) m) (orElse (up (shy e r)) (some (suc r)))
+    by : (m : Option ℕ) (e : Bool) (r : ℕ) → isEnd (drop r cs) ≡ e → orElse (mapO (after (λ _. 0) (c ∷ cs)) m) (orElse (up (shy e r)) (some (suc r)))
         ≡ some (Option·getD m (keep (isEnd (drop r cs)) (suc r)))
     by (some n) e r h = ap some (add-zero n)
     by none true r h = rw h

@@ -21,7 +21,7 @@ row o t e = record { under = o; text = t; cuts = e }
 abbrev mode2 : Options
 mode2 = record { contractions = true; digits = 2; slash = true }
 
-abbrev pub rows : List Row
+abbrev rows : List Row
 rows =
     row o200k [] [] ∷
     row o200k (0x54 ∷ 0x48 ∷ 0x44 ∷ 0x20 ∷ 0x31 ∷ 0x32 ∷ 0x35 ∷ 0x30 ∷ []) (3 ∷ 4 ∷ 7 ∷ 8 ∷ []) ∷

@@ -12,7 +12,7 @@ use Rattle.classes.specs.declared.Class.the-variants.{Upper, Lower, Caseless, M
 use Rattle.pattern.specs.Regex.{Item, char, kind, letter, nonWhite, Set, just, among, except, Piece, one, opt, many, some, upToThree, notAhead, anyCase?, thirds, holds}
 use Rattle.pattern.specs.Pattern.{alternatives, o200k, punct}
 
-abbrev pub showItem : Item → String
+abbrev showItem : Item → String
 showItem (char a) = cond (eqb (code a) 13) "\\r" (cond (eqb (code a) 10) "\\n" (a ∷ˢ []ˢ))
 showItem (kind Upper) = "\\p{Lu}\\p{Lt}"
 showItem (kind Lower) = "\\p{Ll}"
@@ -24,22 +24,22 @@ showItem (kind Other) = "(no notation)"
 showItem letter = "\\p{L}"
 showItem nonWhite = "\\S"
 
-abbrev pub showAll {ℓ} : {A : Type ℓ} → (A → String) → List A → String
+abbrev showAll {ℓ} : {A : Type ℓ} → (A → String) → List A → String
 showAll f [] = ""
 showAll f (x ∷ xs) = f x ++ showAll f xs
 
 -- with a bar between each two
-abbrev pub bars : List String → String
+abbrev bars : List String → String
 bars [] = ""
 bars (w ∷ []) = w
 bars (w ∷ v ∷ ws) = w ++ ("|" ++ bars (v ∷ ws))
 
-abbrev pub showSet : Set → String
+abbrev showSet : Set → String
 showSet (just i) = showItem i
 showSet (among is) = "[" ++ (showAll showItem is ++ "]")
 showSet (except is) = "[^" ++ (showAll showItem is ++ "]")
 
-abbrev pub showPiece : Piece → String
+abbrev showPiece : Piece → String
 showPiece (one s) = showSet s
 showPiece (opt s) = showSet s ++ "?"
 showPiece (many s) = showSet s ++ "*"
@@ -49,7 +49,7 @@ showPiece (notAhead s) = "(?!" ++ (showSet s ++ ")")
 showPiece (anyCase? ws vs) = "(?i:" ++ (bars ws ++ ")?")
 showPiece (thirds s) = showSet s ++ "{((n - 1) mod 3) + 1 of n}"
 
-abbrev pub show : List (List Piece) → String
+abbrev show : List (List Piece) → String
 show rs = bars (map (showAll showPiece) rs)
 
 -- the o200k_base pattern of the public tiktoken sources
@@ -68,7 +68,7 @@ template suffix digits slash =
     ("| ?[^\\s\\p{L}\\p{N}]+[\\r\\n" ++ (slash ++
     "]*|\\s*[\\r\\n]+|\\s+(?!\\S)|\\s+")))))))
 
-abbrev pub digitsText : ℕ → String
+abbrev digitsText : ℕ → String
 digitsText zero = ""
 digitsText (suc zero) = "{1,3}"
 digitsText (suc (suc d)) = "{((n - 1) mod 3) + 1 of n}"

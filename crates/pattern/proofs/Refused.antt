@@ -39,7 +39,7 @@ module _ (o : Options) (s : List ℕ) (at : ℕ) where
       (λ d. let v : Valid s = omega (arith, valid-room s, ltb-false (validLength s) (length s) d) in
       told-row 4 (ltb (length s) at) (length s) _ (λ e. past (ltb-false _ _ m) (ltb-false _ _ l) v (ltb-true _ _ e))
       (λ p. told-row 5 (ltb (charStart (chars s) at) at) (charStart (chars s) at) _ (λ e. inside (ltb-false _ _ m) (ltb-false _ _ l) v (ltb-false _ _ p) (ltb-true _ _ e))
-      (λ e. tt)))))
+      (λ _. tt)))))
 
   pub refused-in-order : (n place : ℕ) → checks o s at ≡ no n place → Refused n place
   refused-in-order n place e = subst Told e told

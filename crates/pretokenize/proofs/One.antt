@@ -1,14 +1,14 @@
 -- A fill with room for one end says what next end says.
 use Prim.Native.Nat.{ℕ, _<_, _≤_}
-use mathlib.Core.List.{List, [], _∷_}
-use mathlib.Core.Path.{_≡_, refl, sym, _∙_, ap}
+use mathlib.Core.List.{List, []}
+use mathlib.Core.Path.{_≡_, sym, _∙_, ap}
 use native.Mathlib.Omega.{arith}
-use lib.ListN.{length, take}
+use lib.ListN.{length}
 use borrow.Author.Tests.{eq-eqb, ne-eqb}
 use Rattle.classes.specs.Classes.{gives, says}
 use Rattle.utf8.proofs.Tests.{by-le}
 use Rattle.pattern.specs.declared.Options.{Options}
-use Rattle.pattern.specs.Answers.{Found, passes, no, checks, nextEnd, tokenEnd, endsAt, written, fill}
+use Rattle.pattern.specs.Answers.{passes, no, checks, nextEnd, tokenEnd, endsAt, written, fill}
 use Rattle.pattern.proofs.Accepted.{accepted, on}
 use Rattle.pattern.proofs.Walk.{end-past, ends-some, ends-none}
 

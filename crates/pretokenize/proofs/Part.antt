@@ -16,7 +16,7 @@ use Rattle.scanners.specs.Place.{Ready, Lent}
 use Rattle.scanners.specs.Scan.{span, Known, Advanced}
 use Rattle.pretokenize.proofs.Groups.{leaves-known}
 
-abbrev pub part : List ℕ → ℕ → List ℕ
+abbrev part : List ℕ → ℕ → List ℕ
 part s at = take (length s - at) (drop at s)
 
 part-length : (s : List ℕ) (at : ℕ) → length (part s at) ≡ length s - at

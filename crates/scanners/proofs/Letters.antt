@@ -77,7 +77,7 @@ module _ (s : List ℕ) (p : ℕ) (w : Whole s p) where
 
   pub one-letter : (a : ℕ) → Small a → oneLetter a (charsAt s p) ≡ eqb (low s p) a
   one-letter a h = by-stands s p w
-      (λ c e k. ap (oneLetter a) (k .then) ∙ and-true (eitherCase a c) ∙ first-is a h k)
+      (λ c _ k. ap (oneLetter a) (k .then) ∙ and-true (eitherCase a c) ∙ first-is a h k)
       (λ n. ap (oneLetter a) n ∙ sym (ap (λ x. eqb (lowered x) a) (past-byte s p w n) ∙ ne-eqb 0 a (λ q. omega (arith, h .from))))
 
 pub two-letters : (s : List ℕ) (p : ℕ) → Whole s p → (a z : ℕ) → Small a → Small z → twoLetters a z (charsAt s p) ≡ pick (eqb (low s p) a) (eqb (low s (p + 1)) z) false

@@ -288,5 +288,5 @@ module _ (o : Options) (s : List ℕ) (w : Whole s 0) {c e : ℕ} (h : Stands s 
 pub leads : (o : Options) (s : List ℕ) → Whole s 0 → 0 < length s → Leads o s (startOf (chars s))
 unfolding startOf charsAt widths
 leads o s w l = by-stands s 0 w
-    (λ c e h. subst (λ cs. Leads o s (startOf cs)) (sym (h .then)) (lead o s w h (classOf c) refl))
+    (λ c _ h. subst (λ cs. Leads o s (startOf cs)) (sym (h .then)) (lead o s w h (classOf c) refl))
     (λ n. absurd (omega (arith, w, ap widths n)))

@@ -60,7 +60,7 @@ unfolding widths
 chars-drop zero bs = refl
 chars-drop (suc n) bs =
     by-front bs
-    (λ c w e.
+    (λ _ w e.
     let r = char-is bs e in
     let k : widths (take (suc n) (chars bs)) ≡ w + widths (take n (chars (drop w bs))) = rw (chars-char bs e, r .wide) in
     rw (k, ← (drop-drop (widths (take n (chars (drop w bs)))) w bs), chars-drop n (drop w bs), chars-char bs e))

@@ -45,7 +45,7 @@ start-back (c ∷ cs) i h =
     (λ g. start-in c cs (i - 1) (omega arith) ∙ sym (start-in c cs i g))
 
 -- it is where the characters before it end
-pub start-is : (cs : List ℕ) (i : ℕ) → (n : ℕ) × (charStart cs i ≡ widths (take n cs))
+start-is : (cs : List ℕ) (i : ℕ) → (n : ℕ) × (charStart cs i ≡ widths (take n cs))
 unfolding charStart widths
 start-is [] i = (0, refl)
 start-is (c ∷ cs) i = by-le (width c) i (λ h. let k = start-is cs (i - width c) in (suc (k .0), start-past c cs i h ∙ ap (λ n. width c + n) (k .1))) (λ h. (0, start-in c cs i h))
@@ -144,7 +144,7 @@ on-past s at n h =
     record { room = omega (arith, h .rest); rest = rw q (omega (arith, h .rest)) }
 
 -- the text before such a place is valid
-pub on-before : (s : List ℕ) (at : ℕ) → Valid s → On s at → Valid (take at s)
+on-before : (s : List ℕ) (at : ℕ) → Valid s → On s at → Valid (take at s)
 on-before s at v h =
     let n = start-is (chars s) at in
     let k : at ≡ widths (take (n .0) (chars s)) = sym (on-begins s at v h) ∙ n .1 in

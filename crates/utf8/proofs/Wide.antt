@@ -45,7 +45,7 @@ module _ (b b1 b2 b3 c w : ℕ) where
       (by-within W 0xe1 b 0xec (λ g k. wide3 0x80 0xbf (omega arith) (omega arith))
       (by-within W 0xed b 0xed (λ g k. wide3 0x80 0x9f (omega arith) (omega arith))
       (by-within W 0xee b 0xef (λ g k. wide3 0x80 0xbf (omega arith) (omega arith))
-      (by-within W 0xf0 b 0xf0 (λ g k. wide4 0x90 0xbf g)
+      (by-within W 0xf0 b 0xf0 (λ g _. wide4 0x90 0xbf g)
       (by-within W 0xf1 b 0xf3 (λ g k. wide4 0x80 0xbf (omega arith))
       (by-within W 0xf4 b 0xf4 (λ g k. wide4 0x80 0x8f (omega arith))
       (λ e. absurd (let z : _≡_ {A = ℕ} 0 1 = cc in omega arith))))))))))

@@ -17,7 +17,7 @@ abbrev μ-loop : tie.MeasureT-loop
 μ-loop rows c i₀ i = length rows - i
 
 loop-holds : tie.Need-loop-holds Inv-loop μ-loop
-loop-holds c = (omega arith, λ k. refl)
+loop-holds c = (omega arith, λ _. refl)
 
 returns : tie.Need-returns Inv-loop μ-loop
 unfolding classFrom

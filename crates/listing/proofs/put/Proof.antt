@@ -1,14 +1,14 @@
 -- `listing::put` meets its contract.
 -- Assumes nothing.
 use borrow.Author.Needs.{needs}
-use Prim.Native.Nat.{_+_, _-_, _≤_}
+use Prim.Native.Nat.{_-_}
 use mathlib.Core.List.{_++_}
 use mathlib.Core.Path.{_≡_, sym, _∙_, ap}
 use native.Mathlib.Omega.{arith}
-use lib.ListN.{length, take, drop, length-append, length-drop}
+use lib.ListN.{length, take, drop, length-append}
 use Rattle.listing.specs.Listing.{decimal, onFront}
 use Rattle.listing.proofs.Decimal.{decimal-spelled}
-use Rattle.listing.proofs.Front.{front-length, copied, start, room, behind}
+use Rattle.listing.proofs.Front.{copied, start, room, behind}
 use Rattle.listing.proofs.put.Statement.{statement}
 use Rattle.listing.proofs.put.Tie as tie
 

@@ -2,11 +2,11 @@
 -- Assumes nothing.
 use borrow.Author.Needs.{needs}
 use mathlib.Core.List.{[], _∷_, _++_}
-use mathlib.Core.Path.{_≡_, ap, _∙_}
+use mathlib.Core.Path.{ap, _∙_}
 use native.Mathlib.Omega.{arith}
 use Prim.Native.Nat.{suc, _≤_}
 use lib.ListN.{length, length-append}
-use Rattle.listing.specs.Listing.{decimal, line}
+use Rattle.listing.specs.Listing.{decimal}
 use Rattle.listing.proofs.Front.{front-length, ended}
 use Rattle.listing.proofs.put_line.Statement.{statement}
 use Rattle.listing.proofs.put_line.Tie as tie

@@ -9,7 +9,7 @@ use borrow.Author.Tests.{ltb-true, ltb-false}
 use lib.Dec.{ltb}
 use lib.ListN.{length}
 use Rattle.utf8.specs.Utf8.{within, chars, charStart}
-use Rattle.utf8.proofs.Place.{start-le, start-back, continues-at, start-of}
+use Rattle.utf8.proofs.Place.{start-le, start-back, continues-at}
 use Rattle.pretokenize.proofs.entry.char_start.Statement.{statement}
 use Rattle.pretokenize.proofs.entry.char_start.Tie as tie
 

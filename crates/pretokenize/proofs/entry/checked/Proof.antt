@@ -1,10 +1,9 @@
 -- `pretokenize::entry::checked` meets its contract: each answer is its row's.
 -- Assumes nothing.
-use mathlib.Core.Path.{_≡_, sym, _∙_, ap}
+use mathlib.Core.Path.{sym, _∙_, ap}
 use native.Mathlib.Omega.{arith}
 use borrow.Author.Needs.{needs}
-use lib.ListN.{length}
-use Rattle.utf8.specs.Utf8.{chars, charStart, Valid}
+use Rattle.utf8.specs.Utf8.{chars, Valid}
 use Rattle.utf8.proofs.Place.{start-le}
 use Rattle.pattern.specs.Answers.{no}
 use Rattle.pattern.proofs.Accepted.{accepts}

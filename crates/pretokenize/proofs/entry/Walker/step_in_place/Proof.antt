@@ -15,10 +15,9 @@ use prog.Memory.{Memory}
 use prog.Routine.{Routine}
 use prog.Wp.{Heap, Calls, Loops, WpFn, Tables}
 use ghost.Atoms.{Atoms, sem}
-use contract.Lifetimes.{Lfts}
 use contract.Monad.{Fun, fact}
 use contract.Running.{givenOf, tables, tablesOf}
-use types.Kit.{Given, Item, ‵, raw, given, _⊛_, ⋆, some, later, _$_, _∵_, !, qed, by, move, keep, drop, use1, use2, use3, split, join, learn, pick, rewrite, fsplit, fsplit3, fjoin, fjoin3, feqI, suffices, frame, await, done}
+use types.Kit.{Given, Item, ‵, raw, given, _⊛_, ⋆, some, later, _$_, _∵_, !, qed, by, move, drop, use1, use2, use3, split, join, learn, pick, rewrite, fsplit, fsplit3, fjoin, fjoin3, feqI, suffices, frame, await, done}
 use types.Part.{whole, sub, look-in}
 use types.Run.{look, look-raw, init, store-raw, forget, stop, hop, fld, from, load, of-opd, and-then, no-more, assigns, land, returns, enter, alloc1, alloc0, params1, pass1, pass0, free1, free0}
 use types.SemTy.{Body}
@@ -30,7 +29,7 @@ use denote.Builtin.{u8}
 use denote.Ref.{RefT, MutRef, now, ptr-vals, mut-tells}
 use denote.Signature.{plain}
 use denote.Slice.{sliceVal, ShrSlice, slice-vals, shr-slice-tells, shr-slice-lawful, shr-slice-copy}
-use denote.Steps.{only, opens, closes, owned, peeks, heard, nothing}
+use denote.Steps.{only, opens, closes, peeks, heard, nothing}
 use denote.Enum.Laws as EL
 use denote.Struct.Laws as LL
 use denote.Struct.Rest.{all-own, own-open}
@@ -45,7 +44,6 @@ use denote.Exit.{yes}
 use denote.Triple.Clauses.{ensured, lasts}
 use Rattle.pretokenize.specs.Entry.{said, stepEnd, moved}
 use Rattle.pretokenize.specs.declared.entry.Walker.{Walker}
-use Rattle.pretokenize.specs.declared.entry.NextEnd.{NextEnd}
 use Rattle.pretokenize.specs.declared.entry.Step.{Step}
 use Rattle.pretokenize.proofs.entry.Walker as T
 use Rattle.pretokenize.proofs.entry.Walker.Laws as T′
