@@ -1,7 +1,6 @@
 // Compares the class of every value with a list that tools/class_runs makes from the official files by another way than the table.
 // It writes the count of each class, or the first value that differs.
 use classes::Asked;
-use classes::Class;
 use classes::Table;
 use libc::STDOUT_FILENO;
 ghost use Prim.Native.Nat.{_+_, _≤_, _<_};
@@ -19,23 +18,11 @@ struct Run {
     to: u32,
 }
 
-fn class_rank(k: Class) -> usize {
-    match k {
-        Class::Upper => 0,
-        Class::Lower => 1,
-        Class::Caseless => 2,
-        Class::Mark => 3,
-        Class::Number => 4,
-        Class::Whitespace => 5,
-        Class::Other => 6,
-    }
-}
-
 // The rank of what the entry point answers.
 fn asked_rank(c: u32) -> usize {
     let a = classes::class_of(c);
     match a {
-        Asked::Is(k) => class_rank(k),
+        Asked::Is(k) => classes::rank_of(k) as usize,
         Asked::NoScalar => REFUSED,
     }
 }
@@ -109,7 +96,7 @@ fn rank_of(t: &Table, c: u32, is_asked: bool) -> usize {
     if is_asked {
         return asked_rank(c);
     }
-    class_rank(classes::class_at(t, c))
+    classes::rank_of(classes::class_at(t, c)) as usize
 }
 
 // The first value of a run whose class is not the run's, or the run's end. The entry point makes a table at each call, which is

@@ -9,6 +9,7 @@ use Rattle.classes.specs.declared.Class.{Class}
 use Rattle.classes.specs.declared.Asked.{Asked}
 use Rattle.classes.specs.declared.Asked.the-variants.{Is, NoScalar}
 use Rattle.classes.proofs.table.Reads as table
+use Rattle.classes.proofs.rank_of.Reads as rank-of
 use Rattle.classes.proofs.class_at.Reads as class-at
 use Rattle.classes.proofs.class_of.Reads as class-of
 use Rattle.classes.proofs.is_upper_ascii.Reads as is-upper-ascii
@@ -37,6 +38,9 @@ class-at-one κs a e e′ p q = p ∙ sym q
 
 pub table-one : (κs : _) (a : _) (e e′ : _) {x y : List ℕ} → table.Post κs a x e → table.Post κs a y e′ → x ≡ y
 table-one κs a e e′ p q = p ∙ sym q
+
+pub rank-one : (κs : _) (a : _) (e e′ : _) {x y : ℕ} → rank-of.Post κs a x e → rank-of.Post κs a y e′ → x ≡ y
+rank-one κs a e e′ p q = p ∙ sym q
 
 pub upper-one : (κs : _) (a : _) (e e′ : _) {x y : Bool} → is-upper-ascii.Post κs a x e → is-upper-ascii.Post κs a y e′ → x ≡ y
 upper-one κs a e e′ p q = p ∙ sym q

@@ -4,7 +4,7 @@ mod ranges;
 ghost use mathlib.Core.Path.{_≡_};
 ghost use Rattle.utf8.specs.Utf8.{scalar, within as between};
 ghost use Rattle.classes.specs.declared.Class.{Class as ClassOf};
-ghost use Rattle.classes.specs.Classes.{classIn, whiteSpace, classSaid, asciiIs, asciiLetter};
+ghost use Rattle.classes.specs.Classes.{classIn, whiteSpace, rank, classSaid, asciiIs, asciiLetter};
 ghost use Rattle.classes.specs.Rows.{named, rangesOf, orElse, classAt, table, answer};
 
 // The seven classes of document 01, in its order.
@@ -88,6 +88,21 @@ fn class_named(rank: u32) -> Class
         4 => Class::Number,
         5 => Class::Whitespace,
         _ => Class::Other,
+    }
+}
+
+// The rank of a class: its place in document 01's order, from 0 on.
+pub fn rank_of(k: Class) -> u8
+    ensures { λ r. ⌜ r ≡ rank k ⌝ }
+{
+    match k {
+        Class::Upper => 0,
+        Class::Lower => 1,
+        Class::Caseless => 2,
+        Class::Mark => 3,
+        Class::Number => 4,
+        Class::Whitespace => 5,
+        Class::Other => 6,
     }
 }
 

@@ -1,7 +1,7 @@
 // The entry points for other languages: numbers and slices alone. Each answers a refusal's number, 0 where there is none.
 use classes::Asked;
-use classes::Class;
 use classes::class_of;
+use classes::rank_of;
 use pattern::Options;
 use pretokenize::Filled;
 use pretokenize::NextEnd;
@@ -9,7 +9,7 @@ use pretokenize::fill;
 use pretokenize::next_end;
 ghost use mathlib.Core.Path.{_≡_};
 ghost use lib.ListN.{length};
-ghost use Rattle.classes.specs.Classes.{rank, classSaid};
+ghost use Rattle.classes.specs.Classes.{classSaid};
 ghost use Rattle.pattern.specs.Answers.{nextEnd, fill, fillList};
 ghost use Rattle.njuxaleet.specs.Exports.{options, endNumber, endPlace, foundNumber, fillPlace, classNumber, classRank};
 
@@ -85,20 +85,6 @@ pub extern "C" fn njuxaleet_fill(
     }
 }
 
-fn rank_of(k: Class) -> u32
-    ensures { λ r. ⌜ r ≡ rank k ⌝ }
-{
-    match k {
-        Class::Upper => 0,
-        Class::Lower => 1,
-        Class::Caseless => 2,
-        Class::Mark => 3,
-        Class::Number => 4,
-        Class::Whitespace => 5,
-        Class::Other => 6,
-    }
-}
-
 // Puts the rank of a scalar value's class into `class`; of any other number, refusal 6 and the rank 0.
 #[no_mangle]
 pub extern "C" fn njuxaleet_class_of(c: u32, class: &mut u32) -> u32
@@ -107,7 +93,7 @@ pub extern "C" fn njuxaleet_class_of(c: u32, class: &mut u32) -> u32
     let a = class_of(c);
     match a {
         Asked::Is(k) => {
-            *class = rank_of(k);
+            *class = rank_of(k) as u32;
             0
         }
         Asked::NoScalar => {

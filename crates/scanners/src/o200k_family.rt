@@ -9,13 +9,14 @@ use classes::is_ascii_ws;
 use classes::is_digit;
 use classes::is_letter;
 use classes::is_upper_ascii;
+use classes::rank_of;
 use pattern::Options;
 ghost use mathlib.Core.Path.{_≡_};
 ghost use Prim.Native.Nat.{_+_, _/_, _%_, _^_, _≤_, _<_, min};
 ghost use lib.ListN.{length, getD};
 ghost use Rattle.utf8.specs.Utf8.{pick, chars, charsAt, decodeAt, width};
 ghost use Rattle.utf8.specs.declared.Decoded.the-variants.{Char};
-ghost use Rattle.classes.specs.Classes.{classOf, rank};
+ghost use Rattle.classes.specs.Classes.{classOf};
 ghost use Rattle.classes.specs.declared.Class.the-variants.{Upper as UpperClass, Caseless as CaselessClass};
 ghost use Rattle.pattern.specs.Regex.{run};
 ghost use Rattle.pattern.proofs.Step.{newline, number, punct, spaceEnd, tail};
@@ -193,20 +194,6 @@ fn is_tail_byte(b: u8, slash: bool) -> bool
         return true;
     }
     if slash { b == b'/' } else { false }
-}
-
-fn rank_of(k: Class) -> u8
-    ensures { λ r. ⌜ r ≡ rank k ⌝ }
-{
-    match k {
-        Class::Upper => 0,
-        Class::Lower => 1,
-        Class::Caseless => 2,
-        Class::Mark => 3,
-        Class::Number => 4,
-        Class::Whitespace => 5,
-        Class::Other => 6,
-    }
 }
 
 // Is this class one of the kind?

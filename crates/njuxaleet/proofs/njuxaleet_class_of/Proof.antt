@@ -21,5 +21,6 @@ njuxaleet-class-of-spec =
     (λ c. search needs)
     (λ c κs. search needs)
     (λ c. search needs)
+    (λ c. search needs)
     returns
     returns-2)

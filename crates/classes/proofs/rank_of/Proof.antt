@@ -1,8 +1,8 @@
--- `njuxaleet::rank_of` meets its contract.
+-- `classes::rank_of` meets its contract: each arm gives the rank of its class. It is written out so that a wrong program is refused for the fact itself.
 -- Assumes nothing.
 use borrow.Author.Needs.{needs}
-use Rattle.njuxaleet.proofs.rank_of.Statement.{statement}
-use Rattle.njuxaleet.proofs.rank_of.Tie as tie
+use Rattle.classes.proofs.rank_of.Statement.{statement}
+use Rattle.classes.proofs.rank_of.Tie as tie
 
 pub rank-of-spec : {M : Type 1} → statement M
 rank-of-spec =
