@@ -11,6 +11,7 @@ use prog.Wp.{Heap}
 use ghost.Atoms.{Atoms}
 use contract.Monad.{Fun, fact}
 use Rattle.classes.specs.Classes.{Said, gives, says}
+use Rattle.classes.proofs.Unique.{one}
 use Rattle.pattern.specs.Answers.{Found, passes, no, Fill}
 use Rattle.pretokenize.specs.declared.entry.Refusal.{Refusal}
 use Rattle.pretokenize.specs.declared.entry.Refusal.the-variants.{Mode, Long, Damaged, Past, Inside}
@@ -31,10 +32,6 @@ use Rattle.pretokenize.proofs.entry.fill.Reads as fill
 use Rattle.pretokenize.proofs.entry.Walker.step.Reads as step
 use Rattle.pretokenize.proofs.entry.Walker.step_in_place as in-place
 use Rattle.pretokenize.specs.declared.entry.Walker.{Walker}
-
--- an answer that can be read back from what it says is fixed by it
-one : {A B : Type 0} (say : A → B) (back : B → A) → ((x : A) → back (say x) ≡ x) → {x y : A} {b : B} → say x ≡ b → say y ≡ b → x ≡ y
-one say back same {x} {y} p q = sym (same x) ∙ ap back (p ∙ sym q) ∙ same y
 
 -- the answers, read back from document 01's numbers and places
 refusal : ℕ → ℕ → Refusal
