@@ -1,15 +1,16 @@
 -- A scan of rows from the front, row by row; and that the rows of the ranges say what the ranges say.
 use mathlib.Core.Bool.{true, false}
 use mathlib.Core.List.{List, [], _∷_}
-use mathlib.Core.Path.{_≡_, refl, _∙_, ap}
+use mathlib.Core.Path.{_≡_, refl, sym, _∙_, ap}
 use Prim.Native.Nat.{ℕ, suc, _+_, _-_, _≤_, _<_}
 use native.Mathlib.Omega.{arith}
 use lib.ListN.{length, getD, drop, length-drop}
 use lib.Seq.{drop-cons}
+use borrow.Author.Tests.{eqb-true}
 use Rattle.utf8.specs.Utf8.{within}
 use Rattle.classes.specs.Range.{Range}
 use Rattle.classes.specs.Ranges.{ranges}
-use Rattle.classes.specs.Classes.{classIn, classOf, rank}
+use Rattle.classes.specs.Classes.{classIn, classOf, rank, same}
 use Rattle.classes.specs.Rows.{named, rowsOf, rangesOf, table, classAt}
 use Rattle.classes.specs.declared.Class.{Class}
 use Rattle.classes.specs.declared.Class.the-variants.{Upper, Lower, Caseless, Mark, Number, Whitespace, Other}
@@ -59,6 +60,10 @@ named-rank Mark = refl
 named-rank Number = refl
 named-rank Whitespace = refl
 named-rank Other = refl
+
+-- a class that the test finds is that class
+pub same-is : (j k : Class) → same j k ≡ true → k ≡ j
+same-is j k e = sym (named-rank k) ∙ ap named (sym (eqb-true (rank j) (rank k) e)) ∙ named-rank j
 
 ranges-back : (rs : List Range) → rangesOf (rowsOf rs) ≡ rs
 unfolding rangesOf rowsOf

@@ -1,6 +1,6 @@
 -- Past the first token of a run of digits grouped from the right the run is a multiple of three: the next token is three, and one group less is left.
 use Prim.Native.Nat.{ℕ, zero, suc, _+_, _-_, _%_, _<_, _≤_}
-use mathlib.Core.Bool.{Bool, true, false, cond}
+use mathlib.Core.Bool.{Bool, false, cond}
 use mathlib.Core.List.{List, [], _∷_}
 use mathlib.Core.Path.{_≡_, refl, sym, _∙_, ap, subst}
 use native.Mathlib.Omega.{arith}
@@ -8,15 +8,15 @@ use borrow.Author.Tests.{ne-eqb}
 use lib.ListN.{drop}
 use lib.Dec.{eqb}
 use Rattle.utf8.specs.Utf8.{pick}
-use Rattle.utf8.proofs.Tests.{by-bool, never}
+use Rattle.utf8.proofs.Tests.{by-bool}
 use Rattle.classes.specs.Classes.{classOf}
-use Rattle.classes.specs.declared.Class.{Class}
 use Rattle.classes.specs.declared.Class.the-variants as k
+use Rattle.classes.proofs.Scan.{same-is}
 use Rattle.pattern.specs.declared.Options.{Options}
 use Rattle.pattern.specs.Regex.{holds, run}
 use Rattle.pattern.specs.Pattern.{token}
 use Rattle.pattern.proofs.Trial.{run-step}
-use Rattle.pattern.proofs.Step.{number, isNumber, groupOf, stepBy, step}
+use Rattle.pattern.proofs.Step.{number, groupOf, stepBy, step}
 use Rattle.pattern.proofs.ClosedForm.{token-is-step}
 use Rattle.scanners.specs.Scan.{span, groups, NextGroup, Known, Advanced}
 
@@ -32,21 +32,12 @@ run-drop p (suc n) (c ∷ cs) h = by-bool (p c)
     (λ t. let e : run p (c ∷ cs) ≡ suc (run p cs) = run-step p c cs ∙ ap (λ b. cond b (suc (run p cs)) 0) t in omega (arith, run-drop p n cs (omega arith)))
     (λ t. let e : run p (c ∷ cs) ≡ 0 = run-step p c cs ∙ ap (λ b. cond b (suc (run p cs)) 0) t in absurd (omega arith))
 
-number-is : (j : Class) → isNumber j ≡ true → j ≡ k.Number
-number-is k.Upper e = never (sym e)
-number-is k.Lower e = never (sym e)
-number-is k.Caseless e = never (sym e)
-number-is k.Mark e = never (sym e)
-number-is k.Number e = refl
-number-is k.Whitespace e = never (sym e)
-number-is k.Other e = never (sym e)
-
 -- a token of a run of digits
 number-token : (o : Options) (cs : List ℕ) → 1 ≤ run number cs → token o cs ≡ groupOf (o .digits) (run number cs)
 unfolding step stepBy holds
 number-token o [] h = absurd (omega (arith, run-nil number))
 number-token o (c ∷ cs) h = by-bool (number c)
-    (λ t. token-is-step o (c ∷ cs) ∙ ap (λ j. stepBy o j c cs) (number-is (classOf c) t) ∙ ap (groupOf (o .digits)) (sym (run-step number c cs ∙ ap (λ b. cond b (suc (run number cs)) 0) t)))
+    (λ t. token-is-step o (c ∷ cs) ∙ ap (λ j. stepBy o j c cs) (same-is k.Number (classOf c) t) ∙ ap (groupOf (o .digits)) (sym (run-step number c cs ∙ ap (λ b. cond b (suc (run number cs)) 0) t)))
     (λ t. let e : run number (c ∷ cs) ≡ 0 = run-step number c cs ∙ ap (λ b. cond b (suc (run number cs)) 0) t in absurd (omega arith))
 
 -- THE GROUPS that a token leaves

@@ -11,6 +11,7 @@ use Rattle.utf8.proofs.Width.{width-1}
 use Rattle.classes.specs.Classes.{classOf, same, isLetter}
 use Rattle.classes.specs.declared.Class.{Class}
 use Rattle.classes.specs.declared.Class.the-variants as k
+use Rattle.classes.proofs.Scan.{same-is}
 use Rattle.pattern.proofs.Step.{isWordy, isNumber, isWhite, newline, is}
 use Rattle.pattern.proofs.ClosedForm.{newline-white, newline-is-not-space, space-white}
 use Rattle.scanners.specs.Place.{Stands}
@@ -20,7 +21,7 @@ use Rattle.scanners.specs.declared.o200k_family.CaseState.{CaseState}
 use Rattle.scanners.specs.declared.o200k_family.CaseState.the-variants.{U, L}
 use Rattle.scanners.specs.declared.o200k_family.Turn.the-variants.{Go}
 use Rattle.scanners.specs.declared.o200k_family.Start.the-variants as start
-use Rattle.scanners.proofs.Ascii.{lower-is, upper-is}
+use Rattle.scanners.proofs.Ascii.{lower-is}
 use Rattle.scanners.proofs.Bytes.{newline-ascii}
 use Rattle.scanners.proofs.Start.{stop-go}
 
@@ -39,7 +40,7 @@ plain-wordy k.Other l p = refl
 
 -- a letter of ASCII enters a letter run
 letter-moves : (j : Class) (u : Bool) → isLetter j ≡ true → Plain j → same k.Upper j ≡ u → (e : ℕ) → Go e (pick u (U 0) L) ≡ moved j (U 0) e
-letter-moves j true l p q e = sym (ap (λ i. moved i (U 0) e) (upper-is j q))
+letter-moves j true l p q e = sym (ap (λ i. moved i (U 0) e) (same-is k.Upper j q))
 letter-moves j false l p q e = sym (ap (λ i. moved i (U 0) e) (lower-is j l q p))
 
 -- past a space
@@ -50,23 +51,11 @@ module _ (j : Class) (e : ℕ) where
 
 pub space-number : (j : Class) (e : ℕ) → isNumber j ≡ true → start.One ≡ spaceStart j e
 unfolding spaceStart
-space-number k.Upper e q = never (sym q)
-space-number k.Lower e q = never (sym q)
-space-number k.Caseless e q = never (sym q)
-space-number k.Mark e q = never (sym q)
-space-number k.Number e q = refl
-space-number k.Whitespace e q = never (sym q)
-space-number k.Other e q = never (sym q)
+space-number j e q = sym (ap (λ i. spaceStart i e) (same-is k.Number j q))
 
 pub space-white-next : (j : Class) (e : ℕ) → isWhite j ≡ true → start.White ≡ spaceStart j e
 unfolding spaceStart
-space-white-next k.Upper e q = never (sym q)
-space-white-next k.Lower e q = never (sym q)
-space-white-next k.Caseless e q = never (sym q)
-space-white-next k.Mark e q = never (sym q)
-space-white-next k.Number e q = never (sym q)
-space-white-next k.Whitespace e q = refl
-space-white-next k.Other e q = never (sym q)
+space-white-next j e q = sym (ap (λ i. spaceStart i e) (same-is k.Whitespace j q))
 
 pub space-other : (j : Class) (e : ℕ) → isLetter j ≡ false → Plain j → isNumber j ≡ false → isWhite j ≡ false → start.Punct e ≡ spaceStart j e
 unfolding spaceStart
@@ -92,13 +81,7 @@ module _ (c : ℕ) (cs : List ℕ) where
 
   pub first-number : (j : Class) → isNumber j ≡ true → start.Number (width c) ≡ firstStart j c cs
   unfolding firstStart
-  first-number k.Upper q = never (sym q)
-  first-number k.Lower q = never (sym q)
-  first-number k.Caseless q = never (sym q)
-  first-number k.Mark q = never (sym q)
-  first-number k.Number q = refl
-  first-number k.Whitespace q = never (sym q)
-  first-number k.Other q = never (sym q)
+  first-number j q = sym (ap (λ i. firstStart i c cs) (same-is k.Number j q))
 
   pub first-prefix : (j : Class) → isWordy j ≡ false → isNumber j ≡ false → newline c ≡ false → is 32 c ≡ false → prefixedStart (isWhite j) (width c) cs ≡ firstStart j c cs
   unfolding firstStart

@@ -1,6 +1,7 @@
 pub mod Outside
 pub mod Stands
 pub mod Ascii
+pub mod Classes
 pub mod Ended
 pub mod Case
 pub mod Bytes
