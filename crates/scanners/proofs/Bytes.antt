@@ -13,8 +13,8 @@ use Rattle.pattern.proofs.Step.{newline, tail, is}
 use Rattle.pattern.proofs.ClosedForm.{newline-elim, tail-is}
 use Rattle.scanners.specs.Place.{Whole, Stands}
 use Rattle.scanners.specs.Scan.{runWidth}
-use Rattle.scanners.proofs.Stands.{stands-ascii}
-use Rattle.scanners.proofs.Ended.{by-stands, run-out, run-nil, Went, went}
+use Rattle.scanners.proofs.Stands.{by-stands, stands-ascii}
+use Rattle.scanners.proofs.Ended.{run-out, run-nil, Went, went}
 
 -- the first of some characters
 same-first : {a b : ℕ} {xs ys : List ℕ} → a ∷ xs ≡ b ∷ ys → a ≡ b

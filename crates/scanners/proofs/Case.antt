@@ -20,7 +20,13 @@ use Rattle.scanners.specs.declared.o200k_family.CaseState.{CaseState}
 use Rattle.scanners.specs.declared.o200k_family.CaseState.the-variants.{U, L}
 use Rattle.scanners.specs.declared.o200k_family.Turn.{Turn}
 use Rattle.scanners.specs.declared.o200k_family.Turn.the-variants.{Go, Stop}
-use Rattle.scanners.proofs.Ended.{by-stands, run-in, run-out}
+use Rattle.scanners.proofs.Spans.{span-cons}
+use Rattle.scanners.proofs.Stands.{by-stands}
+use Rattle.scanners.proofs.Ended.{run-in, run-out}
+
+-- no turn both stops and goes on
+pub stop-go : {P : Type 0} {f : ℕ} {st : CaseState} → Stop ≡ Go f st → P
+stop-go q = absurd (let z : _≡_ {A = ℕ} 0 1 = cc in omega arith)
 
 -- what a move says of the run's end
 abbrev After : CaseState → ℕ → ℕ → List ℕ → Turn → Type 0
@@ -48,8 +54,7 @@ module _ (at c : ℕ) (cs : List ℕ) where
   back last i q = ap (λ o. upperStop o last i cs) (sym q)
 
   span-suc : (n : ℕ) → at + span (suc n) (c ∷ cs) ≡ at + w + span n cs
-  unfolding span widths
-  span-suc n = omega arith
+  span-suc n = omega (arith, span-cons n c cs)
 
   upper-run : {k : Class} → classOf c ≡ k → isUpperish k ≡ true → at + runWidth upperish (c ∷ cs) ≡ at + w + runWidth upperish cs
   unfolding holds
@@ -129,19 +134,19 @@ module _ (s : List ℕ) (at : ℕ) (st : CaseState) where
       let g : moved (classOf c) st (at + width c) ≡ Go e next = ap (moved (classOf c) st) (sym (h .wide)) ∙ turned-at h refl ∙ q in
       let k : f ≡ e = ends st (classOf c) (turned-at h refl ∙ q) in
       record { past = rw k at (h .past); whole = rw k at (h .whole); stop = ap (caseStop st at) (h .then) ∙ subst (After st at c (charsAt s f)) g (after st at c (charsAt s f)) ∙ ap (λ i. caseStop next e (charsAt s i)) k })
-      (λ n. let z : _≡_ {A = ℕ} 0 1 = cc (turned-none n) in absurd (omega arith))
+      (λ n. stop-go (turned-none n ∙ q))
     where
       ends : (st : CaseState) (k : Class) {f e : ℕ} {next : CaseState} → moved k st f ≡ Go e next → f ≡ e
       ends (U last) Upper q = cc
-      ends L Upper q = absurd (let z : _≡_ {A = ℕ} 0 1 = cc in omega arith)
+      ends L Upper q = stop-go q
       ends st Lower q = cc
       ends (U last) Caseless q = cc
       ends L Caseless q = cc
       ends (U last) Mark q = cc
       ends L Mark q = cc
-      ends st Number q = absurd (let z : _≡_ {A = ℕ} 0 1 = cc in omega arith)
-      ends st Whitespace q = absurd (let z : _≡_ {A = ℕ} 0 1 = cc in omega arith)
-      ends st Other q = absurd (let z : _≡_ {A = ℕ} 0 1 = cc in omega arith)
+      ends st Number q = stop-go q
+      ends st Whitespace q = stop-go q
+      ends st Other q = stop-go q
 
   pub case-stops : Whole s at → turned st at (charsAt s at) ≡ Stop → caseStop st at (charsAt s at) ≡ finish st at
   case-stops w q =

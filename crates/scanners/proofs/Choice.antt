@@ -23,7 +23,7 @@ use Rattle.scanners.specs.declared.o200k_family.Turn.the-variants.{Go}
 use Rattle.scanners.specs.declared.o200k_family.Start.the-variants as start
 use Rattle.scanners.proofs.Ascii.{lower-is}
 use Rattle.scanners.proofs.Bytes.{newline-ascii}
-use Rattle.scanners.proofs.Start.{stop-go}
+use Rattle.scanners.proofs.Case.{stop-go}
 
 -- no caseless letter and no mark, as in ASCII
 abbrev Plain : Class → Type 0

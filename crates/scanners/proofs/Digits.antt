@@ -13,11 +13,8 @@ use Rattle.pattern.proofs.Bounds.{run-le}
 use Rattle.scanners.specs.Place.{Whole}
 use Rattle.scanners.specs.Scan.{span, ended, groups, alignedEnd, Digits}
 use Rattle.scanners.specs.declared.o200k_family.Ended.the-variants.{At, No}
+use Rattle.scanners.proofs.Spans.{span-none}
 use Rattle.scanners.proofs.Ended.{Went, goes, stops-count}
-
-pub span-none : (cs : List ℕ) → span 0 cs ≡ 0
-unfolding span widths
-span-none cs = refl
 
 length-widths : (cs : List ℕ) → length cs ≤ widths cs
 unfolding widths

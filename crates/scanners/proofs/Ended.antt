@@ -1,28 +1,17 @@
 -- The end of a character that is of a class, and runs of the class: how they go on, character by character.
-use Prim.Native.Nat.{ℕ, suc, _+_, _≤_, _<_}
+use Prim.Native.Nat.{ℕ, suc, _+_, _<_}
 use mathlib.Core.Bool.{Bool, true, false, cond}
 use mathlib.Core.List.{List, [], _∷_}
-use mathlib.Core.Path.{_≡_, refl, sym, _∙_, ap}
+use mathlib.Core.Path.{_≡_, refl, sym, _∙_, ap, subst}
 use native.Mathlib.Omega.{arith}
 use Rattle.utf8.specs.Utf8.{pick, charsAt, width, widths}
 use Rattle.utf8.proofs.Tests.{by-bool}
-use Rattle.utf8.proofs.Width.{widths-split}
-use Rattle.utf8.proofs.At.{at-char, by-place}
 use Rattle.pattern.specs.Regex.{run}
 use Rattle.pattern.proofs.Trial.{run-step}
 use Rattle.scanners.specs.Place.{Whole, Stands}
 use Rattle.scanners.specs.Scan.{span, runWidth, ended}
 use Rattle.scanners.specs.declared.o200k_family.Ended.the-variants.{At, No}
-use Rattle.scanners.proofs.Stands.{stands}
-
--- by the character at a place of checked text, or none
-pub by-stands : {P : Type 0} (s : List ℕ) (at : ℕ) → Whole s at → ((c e : ℕ) → Stands s at c e → P) → (charsAt s at ≡ [] → P) → P
-by-stands s at h f g = by-place s at (λ c w e. f c (at + w) (stands s at h (at-char s at e))) g
-
--- n characters take no more than all
-pub span-room : (n : ℕ) (cs : List ℕ) → span n cs ≤ widths cs
-unfolding span
-span-room n cs = omega (arith, widths-split n cs)
+use Rattle.scanners.proofs.Stands.{by-stands}
 
 module _ (p : ℕ → Bool) where
   pub run-in : (c : ℕ) (cs : List ℕ) → p c ≡ true → runWidth p (c ∷ cs) ≡ width c + runWidth p cs
@@ -64,28 +53,29 @@ module _ (p : ℕ → Bool) (s : List ℕ) (at : ℕ) where
     spans = λ n. omega (arith, h .wide, ap (λ cs. span (suc n) cs) (h .then));
   }
 
-  pub goes : {e : ℕ} → Whole s at → ended p at (charsAt s at) ≡ At e → Went p s at e
-  unfolding ended
-  goes {e} w q =
+  -- by the character of the class that ends at e; by one that is not of the class, or none
+  pub by-at : {P : Type 0} {e : ℕ} → Whole s at → ended p at (charsAt s at) ≡ At e → ((c : ℕ) → Stands s at c e → p c ≡ true → P) → P
+  by-at {e = e} w q g =
       by-stands s at w
       (λ c f h. by-bool (p c)
-      (λ t. let k : f ≡ e = cc (ended-at true h (sym t)) in rw k at (went h t))
+      (λ t. let k : f ≡ e = cc (ended-at true h (sym t)) in g c (subst (Stands s at c) k h) t)
       (λ t. let z : _≡_ {A = ℕ} 0 1 = cc (ended-at false h (sym t)) in absurd (omega arith)))
       (λ n. let z : _≡_ {A = ℕ} 0 1 = cc (ended-none n) in absurd (omega arith))
 
+  pub by-no : {P : Type 0} → Whole s at → ended p at (charsAt s at) ≡ No → ((c e : ℕ) → Stands s at c e → p c ≡ false → P) → (charsAt s at ≡ [] → P) → P
+  by-no w q g =
+      by-stands s at w
+      (λ c f h. by-bool (p c)
+      (λ t. let z : _≡_ {A = ℕ} 0 1 = cc (ended-at true h (sym t)) in absurd (omega arith))
+      (g c f h))
+
+  pub goes : {e : ℕ} → Whole s at → ended p at (charsAt s at) ≡ At e → Went p s at e
+  goes w q = by-at w q (λ _. went)
+
   pub stops-count : Whole s at → ended p at (charsAt s at) ≡ No → run p (charsAt s at) ≡ 0
   unfolding run
-  stops-count w q =
-      by-stands s at w
-      (λ c f h. by-bool (p c)
-      (λ t. let z : _≡_ {A = ℕ} 0 1 = cc (ended-at true h (sym t)) in absurd (omega arith))
-      (λ t. ap (run p) (h .then) ∙ run-step p c (charsAt s f) ∙ ap (λ b. cond b (suc (run p (charsAt s f))) 0) t))
-      (λ n. ap (run p) n)
+  stops-count w q = by-no w q (λ c f h t. ap (run p) (h .then) ∙ run-step p c (charsAt s f) ∙ ap (λ b. cond b (suc (run p (charsAt s f))) 0) t) (ap (run p))
 
   pub stops : Whole s at → ended p at (charsAt s at) ≡ No → runWidth p (charsAt s at) ≡ 0
-  stops w q =
-      by-stands s at w
-      (λ c f h. by-bool (p c)
-      (λ t. let z : _≡_ {A = ℕ} 0 1 = cc (ended-at true h (sym t)) in absurd (omega arith))
-      (λ t. ap (runWidth p) (h .then) ∙ run-out p c (charsAt s f) t))
-      (λ n. ap (runWidth p) n ∙ run-nil p)
+  unfolding runWidth span widths
+  stops w q = ap (λ n. span n (charsAt s at)) (stops-count w q)

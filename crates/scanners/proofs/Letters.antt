@@ -19,7 +19,7 @@ use Rattle.pattern.specs.Regex.{eitherCase}
 use Rattle.scanners.specs.Place.{Whole, Stands}
 use Rattle.scanners.specs.Scan.{span}
 use Rattle.scanners.specs.Suffix.{lowered}
-use Rattle.scanners.proofs.Ended.{by-stands}
+use Rattle.scanners.proofs.Stands.{by-stands}
 use Rattle.scanners.proofs.Bytes.{stands-byte, stands-high}
 
 abbrev pub oneLetter : ℕ → List ℕ → Bool

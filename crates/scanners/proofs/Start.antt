@@ -29,10 +29,10 @@ use Rattle.scanners.specs.declared.o200k_family.Turn.the-variants.{Go, S
 use Rattle.scanners.specs.declared.o200k_family.Ended.the-variants.{At}
 use Rattle.scanners.specs.declared.o200k_family.Start.{Start}
 use Rattle.scanners.specs.declared.o200k_family.Start.the-variants as start
-use Rattle.scanners.proofs.Ended.{by-stands, ended-at, went}
-use Rattle.scanners.proofs.Case.{case-goes, case-whole, turned-at}
-use Rattle.scanners.proofs.Digits.{span-none}
-use Rattle.scanners.proofs.Spans.{span-add, span-cons, chars-past, whole-past}
+use Rattle.scanners.proofs.Stands.{by-stands}
+use Rattle.scanners.proofs.Ended.{ended-at, went}
+use Rattle.scanners.proofs.Case.{stop-go, case-goes, case-whole, turned-at}
+use Rattle.scanners.proofs.Spans.{span-none, span-add, span-cons, chars-past, whole-past}
 
 -- a letter run that is entered past its first character, at f in the state st, and its suffix; it begins a bytes before the text's n-th
 pub record Letters (o : Options) (s : List ℕ) (f : ℕ) (st : CaseState) (end : ℕ) : Type 0 where
@@ -92,9 +92,6 @@ Leads o s (start.Number f) = (ended number 0 (chars s) ≡ At f) × (token o (ch
 Leads o s start.One = (1 ≡ span (token o (chars s)) (chars s)) × (run number (chars s) ≡ 0)
 
 -- a letter run is entered just where a letter or a mark opens it
-pub stop-go : {P : Type 0} {f : ℕ} {st : CaseState} → Stop ≡ Go f st → P
-stop-go q = absurd (let z : _≡_ {A = ℕ} 0 1 = cc in omega arith)
-
 enters : (at : ℕ) (cs : List ℕ) {f : ℕ} {st : CaseState} → turned (U 0) at cs ≡ Go f st → opens wordy cs ≡ true
 unfolding turned opens wordy
 enters at [] q = stop-go q

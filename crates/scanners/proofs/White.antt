@@ -10,7 +10,6 @@ use lib.Dec.{eqb}
 use lib.ListN.{length, getD, drop}
 use borrow.Author.Tests.{eq-eqb, ne-eqb}
 use Rattle.utf8.specs.Utf8.{pick, charsAt, width, widths}
-use Rattle.utf8.proofs.Tests.{by-bool}
 use Rattle.utf8.proofs.Width.{width-some}
 use Rattle.pattern.specs.Regex.{run}
 use Rattle.pattern.proofs.Trial.{run-step}
@@ -21,7 +20,8 @@ use Rattle.pattern.proofs.Bounds.{run-le}
 use Rattle.scanners.specs.Place.{Whole, Stands}
 use Rattle.scanners.specs.Scan.{span, ended, whiteStop}
 use Rattle.scanners.specs.declared.o200k_family.Ended.the-variants.{At, No}
-use Rattle.scanners.proofs.Ended.{by-stands, ended-at, ended-none}
+use Rattle.scanners.proofs.Spans.{span-some}
+use Rattle.scanners.proofs.Ended.{by-at, by-no}
 use Rattle.scanners.proofs.Bytes.{byte-class, newline-ascii}
 
 -- the scan as a function: nl is the end of the last CR or LF, last the start of the last character, 0 where there is none
@@ -69,12 +69,6 @@ from-is nl last at (c ∷ cs) = rw (run-step white c cs)
     by false true m r e d s h = cc (s refl)
     by false false m r e d s h = rw add-zero
 
-span-some : (n : ℕ) (cs : List ℕ) → 1 ≤ n → n ≤ length cs → 1 ≤ span n cs
-unfolding span widths
-span-some zero cs h l = absurd (omega arith)
-span-some (suc n) [] h l = absurd (omega arith)
-span-some (suc n) (c ∷ cs) h l = omega (arith, width-some c)
-
 -- the whole scan is the closed form
 pub white-whole : (cs : List ℕ) → whiteFrom 0 0 0 cs ≡ span (spaceEnd cs) cs
 unfolding spaceEnd span widths
@@ -101,19 +95,12 @@ module _ (s : List ℕ) (at nl last : ℕ) where
       ∙ ap (λ i. whiteFrom (cond (newline c) i nl) at i (charsAt s e)) (sym (h .wide)) ∙ ap (λ m. whiteFrom m at e (charsAt s e)) n
 
   pub white-goes : {e : ℕ} → Whole s at → ended white at (charsAt s at) ≡ At e → whiteFrom nl last at (charsAt s at) ≡ whiteFrom (pick (newline (getD s at 0)) e nl) at e (charsAt s e)
-  white-goes {e} w q =
-      by-stands s at w
-      (λ c f h. by-bool (white c)
-      (λ t. let k : f ≡ e = cc (ended-at white s at true h (sym t)) in rw k at (from-at h t))
-      (λ t. let z : _≡_ {A = ℕ} 0 1 = cc (ended-at white s at false h (sym t)) in absurd (omega arith)))
-      (λ n. let z : _≡_ {A = ℕ} 0 1 = cc (ended-none white s at n) in absurd (omega arith))
+  white-goes w q = by-at white s at w q (λ _. from-at)
 
   pub white-stops : Whole s at → ended white at (charsAt s at) ≡ No → whiteFrom nl last at (charsAt s at) ≡ whiteStop (eqb at (length s)) nl last at
   unfolding whiteFrom widths
   white-stops w q =
-      by-stands s at w
-      (λ c f h. by-bool (white c)
-      (λ t. let z : _≡_ {A = ℕ} 0 1 = cc (ended-at white s at true h (sym t)) in absurd (omega arith))
-      (λ t. ap (whiteFrom nl last at) (h .then) ∙ ap (λ b. cond b (whiteFrom (cond (newline c) (at + width c) nl) at (at + width c) (charsAt s f)) (whiteStop false nl last at)) t
-      ∙ ap (λ b. whiteStop b nl last at) (sym (ne-eqb at (length s) (λ k. omega (arith, w, h .wide, h .whole, h .past))))))
+      by-no white s at w q
+      (λ c f h t. ap (whiteFrom nl last at) (h .then) ∙ ap (λ b. cond b (whiteFrom (cond (newline c) (at + width c) nl) at (at + width c) (charsAt s f)) (whiteStop false nl last at)) t
+      ∙ ap (λ b. whiteStop b nl last at) (sym (ne-eqb at (length s) (λ k. omega (arith, w, h .wide, h .whole, h .past)))))
       (λ n. ap (whiteFrom nl last at) n ∙ ap (λ b. whiteStop b nl last at) (sym (eq-eqb at (length s) (omega (arith, w, ap widths n)))))

@@ -2,19 +2,18 @@
 use Prim.Native.Nat.{ℕ, suc, _+_, _-_, _<_, _≤_}
 use native.Mathlib.Nat.{add-zero}
 use mathlib.Core.List.{List, [], _∷_}
-use mathlib.Core.Path.{_≡_, refl, _∙_, ap, subst}
+use mathlib.Core.Path.{_≡_, _∙_, ap, subst}
 use native.Mathlib.Omega.{arith}
 use borrow.Author.Tests.{eq-eqb, ne-eqb}
 use lib.ListN.{length, getD, take, drop, length-drop, drop-of-length-le}
 use lib.Seq.{drop-cons, drop-drop, take-all, getD-drop}
 use Rattle.utf8.specs.Utf8.{leadOf, decodeAs, decode1, chars, decodeAt, charsAt, width, validLength, checked}
-use Rattle.utf8.specs.declared.Decoded.{Decoded}
 use Rattle.utf8.specs.declared.Decoded.the-variants.{Char, Bad, End}
 use Rattle.utf8.specs.declared.Checked.the-variants.{Valid, BadAt}
 use Rattle.utf8.proofs.Table.{lead-00}
 use Rattle.utf8.proofs.Width.{encode-1}
 use Rattle.utf8.proofs.Says.{Say, decode-says}
-use Rattle.utf8.proofs.Chars.{char-is, chars-char, chars-bad, chars-end}
+use Rattle.utf8.proofs.Chars.{char-is, by-front, chars-char, chars-bad, chars-end}
 
 -- by whether a byte is there
 pub decode-none : (s : List ℕ) (at : ℕ) → length s ≤ at → decodeAt s at ≡ End
@@ -71,12 +70,8 @@ at-past s at h = at-end s at (decode-none s at h)
 
 -- by the character at a place, or none
 pub by-place : {P : Type 0} (s : List ℕ) (at : ℕ) → ((c w : ℕ) → decodeAt s at ≡ Char c w → P) → (charsAt s at ≡ [] → P) → P
-by-place {P} s at f g = go (decodeAt s at) refl
-  where
-    go : (d : Decoded) → decodeAt s at ≡ d → P
-    go (Char c w) e = f c w e
-    go Bad e = g (at-bad s at e .none)
-    go End e = g (at-end s at e .none)
+unfolding decodeAt charsAt
+by-place s at f g = by-front (drop at s) f g
 
 -- an ASCII character is its byte
 pub ascii-back : (s : List ℕ) (at : ℕ) {c w : ℕ} → decodeAt s at ≡ Char c w → c ≤ 0x7f → getD s at 0 ≡ c
