@@ -1,4 +1,4 @@
--- Every token is nonempty and within the text, and the walk covers the text.
+-- Every token has from one character to all of them.
 use mathlib.Core.Bool.{Bool, true, false, cond, true≢false, _&&_ as and}
 use mathlib.Core.Path.{_≡_, refl, sym, ap}
 use mathlib.Core.List.{List, [], _∷_}
@@ -8,14 +8,15 @@ use native.Mathlib.Omega.{arith}
 use Prim.Native.Char.{code}
 use Prim.Native.String.{String, [] as []ˢ, _∷_ as _∷ˢ_, count, count·cons}
 use lib.ListN.{drop, length, length-drop}
+use Rattle.utf8.proofs.Tests.{by-cond, and-both}
 use Rattle.classes.specs.Classes.{classOf}
 use Rattle.classes.specs.declared.Class.{Class}
 use Rattle.classes.specs.declared.Class.the-variants.{Upper, Lower, Caseless, Mark, Number, Whitespace, Other}
 use Rattle.pattern.specs.Regex.{holds, run, spells, eitherCase}
-use Rattle.pattern.proofs.Runs.{lastStep, lastIn, after}
+use Rattle.pattern.proofs.Runs.{run-step, run-le, after, lastStep, lastIn, AllO, last-all}
 use Rattle.pattern.specs.declared.Options.{Options}
 use Rattle.pattern.specs.Pattern.{token}
-use Rattle.pattern.proofs.Trial.{opens, run-step}
+use Rattle.pattern.proofs.Trial.{opens}
 use Rattle.pattern.proofs.Step.{upperish, lowerish, number, white, punct, newline, isUpperish, isLowerish, isWhite, isPunct, is, tail, groupOf, isWordy, wordy, caseEnd, firstFit, suffixTable, suffixEnd, wordEnd, punctEnd, isEnd, keep, spaceEnd, stepBy, step}
 use Rattle.pattern.proofs.ClosedForm.{token-is-step}
 
@@ -23,31 +24,10 @@ use Rattle.pattern.proofs.ClosedForm.{token-is-step}
 abbrev Good : ℕ → ℕ → Type 0
 Good l n = (1 ≤ n) × (n ≤ l)
 
-abbrev Within : ℕ → Option ℕ → Type 0
-Within l none = Unit {0}
-Within l (some n) = Good l n
-
-pub run-le : (p : ℕ → Bool) (cs : List ℕ) → run p cs ≤ length cs
-unfolding run
-run-le p [] = omega arith
-run-le p (c ∷ cs) = rw (run-step p c cs) (by (p c) (run p cs) (run-le p cs))
-  where
-    by : (b : Bool) (r : ℕ) → r ≤ length cs → cond b (suc r) 0 ≤ suc (length cs)
-    by true r h = omega arith
-    by false r h = omega arith
-
-last-within : (p q : ℕ → Bool) (cs : List ℕ) → Within (length cs) (lastIn p q cs)
+last-within : (p q : ℕ → Bool) (cs : List ℕ) → AllO (Good (length cs)) (lastIn p q cs)
 unfolding lastIn
 last-within p q [] = tt
-last-within p q (c ∷ cs) = by (p c) (q c) (lastIn p q cs) (run q cs) (last-within p q cs) (run-le q cs)
-  where
-    by : (b d : Bool) (m : Option ℕ) (r : ℕ) → Within (length cs) m → r ≤ length cs
-        → Within (suc (length cs)) (lastStep b d m r)
-    by true d (some n) r w h = omega arith
-    by true true none r w h = omega arith
-    by true false none r w h = tt
-    by false true m r w h = omega arith
-    by false false m r w h = tt
+last-within p q (c ∷ cs) = last-all (Good (length cs)) (Good (suc (length cs))) (p c) (q c) (lastIn p q cs) (run q cs) (λ n w. omega arith) (omega arith) (omega (arith, run-le q cs)) (last-within p q cs)
 
 after-good : (f : List ℕ → ℕ) (cs : List ℕ) (n : ℕ) → ((ds : List ℕ) → f ds ≤ length ds) → Good (length cs) n → Good (length cs) (after f cs n)
 after-good f cs n h g = omega (arith, h (drop n cs), length-drop n cs)
@@ -57,7 +37,7 @@ unfolding caseEnd wordy holds lastIn
 case-good c cs e = rw (run-step upperish c cs) (by (classOf c) (lastIn upperish lowerish cs) (run lowerish cs) (run upperish cs)
     (last-within upperish lowerish cs) (run-le lowerish cs) (run-le upperish cs) e)
   where
-    by : (k : Class) (m : Option ℕ) (r u : ℕ) → Within (length cs) m → r ≤ length cs → u ≤ length cs → isWordy k ≡ true
+    by : (k : Class) (m : Option ℕ) (r u : ℕ) → AllO (Good (length cs)) m → r ≤ length cs → u ≤ length cs → isWordy k ≡ true
         → Good (suc (length cs)) (Option·getD (lastStep (isUpperish k) (isLowerish k) m r) (cond (isUpperish k) (suc u) 0))
     by Upper none r u w h g e = omega arith
     by Upper (some n) r u w h g e = omega arith
@@ -90,11 +70,7 @@ first-le (w ∷ ws) cs = by (spells w cs) (spells-le w cs) (first-le ws cs)
 
 suffix-le : (o : Options) (cs : List ℕ) → suffixEnd o cs ≤ length cs
 unfolding suffixEnd
-suffix-le o cs = by (o .contractions) (first-le suffixTable cs)
-  where
-    by : (b : Bool) → firstFit suffixTable cs ≤ length cs → cond b (firstFit suffixTable cs) 0 ≤ length cs
-    by true h = h
-    by false h = omega arith
+suffix-le o cs = by-cond (λ n. n ≤ length cs) (o .contractions) (first-le suffixTable cs) (omega arith)
 
 word-good : (o : Options) (cs : List ℕ) → opens wordy cs ≡ true → Good (length cs) (wordEnd o cs)
 unfolding opens wordEnd
@@ -111,7 +87,7 @@ space-good : (c : ℕ) (cs : List ℕ) → white c ≡ true → Good (suc (lengt
 unfolding spaceEnd
 space-good c cs e = rw (run-step white c cs, e) (by (lastIn white newline (c ∷ cs)) (isEnd (drop (run white cs) cs)) (run white cs) (last-within white newline (c ∷ cs)) (run-le white cs))
   where
-    by : (m : Option ℕ) (e : Bool) (r : ℕ) → Within (suc (length cs)) m → r ≤ length cs → Good (suc (length cs)) (Option·getD m (keep e (suc r)))
+    by : (m : Option ℕ) (e : Bool) (r : ℕ) → AllO (Good (suc (length cs))) m → r ≤ length cs → Good (suc (length cs)) (Option·getD m (keep e (suc r)))
     by (some n) e r w h = w
     by none true r w h = omega arith
     by none false zero w h = omega arith
@@ -123,10 +99,6 @@ group-good zero n = omega arith
 group-good (suc zero) n = omega arith
 group-good (suc (suc d)) n = omega arith
 
-pub and-right : (a b : Bool) → and a b ≡ true → b ≡ true
-and-right true b h = h
-and-right false b h = absurd (true≢false (sym h))
-
 step-good : (o : Options) (c : ℕ) (cs : List ℕ) → Good (suc (length cs)) (step o (c ∷ cs))
 unfolding step stepBy opens wordy holds
 step-good o c cs = go (classOf c) refl
@@ -137,7 +109,7 @@ step-good o c cs = go (classOf c) refl
     go Caseless e = word-good o (c ∷ cs) (ap isWordy e)
     go Mark e = word-good o (c ∷ cs) (ap isWordy e)
     go Number e = omega (arith, group-good (o .digits) (run number cs), run-le number cs)
-    go Whitespace e = by (newline c) (opens wordy cs) (and (is 32 c) (opens punct cs)) (word-good o cs) (λ h. punct-good o cs (and-right (is 32 c) _ h)) (space-good c cs (ap isWhite e))
+    go Whitespace e = by (newline c) (opens wordy cs) (and (is 32 c) (opens punct cs)) (word-good o cs) (λ h. punct-good o cs (and-both (is 32 c) _ h .1)) (space-good c cs (ap isWhite e))
       where
         by : (b ow s : Bool) → (ow ≡ true → Good (length cs) (wordEnd o cs)) → (s ≡ true → Good (length cs) (punctEnd o cs)) → Good (suc (length cs)) (spaceEnd (c ∷ cs))
             → Good (suc (length cs)) (cond b (spaceEnd (c ∷ cs)) (cond ow (suc (wordEnd o cs)) (cond s (suc (punctEnd o cs)) (spaceEnd (c ∷ cs)))))

@@ -1,6 +1,6 @@
 -- Where a text ends in CR or LF and what follows is fresh, its first token is the one that it has alone.
 use mathlib.Core.Bool.{Bool, true, false, cond, _&&_ as and, _||_ as or, not}
-use mathlib.Core.Path.{_≡_, refl, sym, ap}
+use mathlib.Core.Path.{_≡_, refl, ap}
 use mathlib.Core.List.{List, [], _∷_, _++_}
 use mathlib.Core.Option.{Option, none, some, Option·getD}
 use Prim.Native.Nat.{ℕ, zero, suc, _<_}
@@ -9,6 +9,7 @@ use Prim.Native.Char.{code}
 use Prim.Native.String.{String, [] as []ˢ, _∷_ as _∷ˢ_}
 use lib.ListN.{drop, take, length, length-append}
 use lib.Seq.{drop-append-le}
+use Rattle.utf8.proofs.Tests.{by-cond, not-true, and-both}
 use Rattle.classes.specs.Classes.{classOf}
 use Rattle.classes.specs.declared.Class.{Class}
 use Rattle.classes.specs.declared.Class.the-variants.{Upper, Lower, Caseless, Mark, Number, Whitespace, Other}
@@ -16,11 +17,11 @@ use Rattle.pattern.specs.declared.Options.{Options}
 use Rattle.pattern.specs.Regex.{Set, just, char, holds, run, spells, eitherCase}
 use Rattle.pattern.specs.Pattern.{token, newline as newlineSet}
 use Rattle.pattern.specs.Records.{noneOf, fresh}
-use Rattle.pattern.proofs.Trial.{opens, run-step}
-use Rattle.pattern.proofs.Runs.{lastStep, lastIn, after, last-none}
+use Rattle.pattern.proofs.Trial.{opens}
+use Rattle.pattern.proofs.Runs.{run-step, after, lastStep, lastIn, AllO, last-all, last-none}
 use Rattle.pattern.proofs.Step.{upperish, lowerish, number, white, punct, newline, isUpperish, isLowerish, isNumber, isPunct, is, tail, wordy, caseEnd, firstFit, suffixTable, suffixEnd, wordEnd, punctEnd, isEnd, keep, spaceEnd, stepBy, step}
-use Rattle.pattern.proofs.ClosedForm.{token-is-step, newline-white, newline-is-white, newline-elim, tail-is}
-use Rattle.pattern.proofs.Bounds.{and-right}
+use Rattle.pattern.proofs.Sets.{newline-elim, newline-white, newline-is-white, tail-is}
+use Rattle.pattern.proofs.ClosedForm.{token-is-step}
 
 -- the last character is CR or LF
 pub data Closed : List ℕ → Type 0 where
@@ -53,11 +54,7 @@ run-closed p a ys (there {c} {cs} k) = rw (run-step p c (cs ++ ys), run-step p c
 
 run-lt : (p : ℕ → Bool) → Avoids p → {xs : List ℕ} → Closed xs → run p xs < length xs
 run-lt p a (here {c} h) = rw (run-step p c [], a c h) (omega arith)
-run-lt p a (there {c} {cs} k) = rw (run-step p c cs) (by (p c) (run p cs) (run-lt p a k))
-  where
-    by : (b : Bool) (r : ℕ) → r < length cs → cond b (suc r) 0 < suc (length cs)
-    by true r h = omega arith
-    by false r h = omega arith
+run-lt p a (there {c} {cs} k) = rw (run-step p c cs) (by-cond (λ n. n < suc (length cs)) (p c) (omega (arith, run-lt p a k)) (omega arith))
 
 -- a run ends before what follows if that does not open with the class
 run-append : (p : ℕ → Bool) (xs ys : List ℕ) → run p ys ≡ 0 → run p (xs ++ ys) ≡ run p xs
@@ -70,22 +67,12 @@ unfolding lastIn
 last-closed p q a b ys (here {c} h) = rw (a c h, b c h)
 last-closed p q a b ys (there {c} {cs} k) = rw (last-closed p q a b ys k, run-closed q b ys k)
 
-abbrev Below : ℕ → Option ℕ → Type 0
-Below l none = Unit {0}
-Below l (some n) = n < l
-
-last-below : (p q : ℕ → Bool) → Avoids p → Avoids q → {xs : List ℕ} → Closed xs → Below (length xs) (lastIn p q xs)
+last-below : (p q : ℕ → Bool) → Avoids p → Avoids q → {xs : List ℕ} → Closed xs → AllO (λ n. n < length xs) (lastIn p q xs)
 unfolding lastIn
 last-below p q a b (here {c} h) = rw (a c h, b c h) tt
-last-below p q a b (there {c} {cs} k) = by (p c) (q c) (lastIn p q cs) (run q cs) (last-below p q a b k) (run-lt q b k)
-  where
-    by : (b d : Bool) (m : Option ℕ) (r : ℕ) → Below (length cs) m → r < length cs
-        → Below (suc (length cs)) (lastStep b d m r)
-    by true d (some n) r w h = omega arith
-    by true true none r w h = omega arith
-    by true false none r w h = tt
-    by false true m r w h = omega arith
-    by false false m r w h = tt
+last-below p q a b (there {c} {cs} k) =
+    let l = run-lt q b k in
+    last-all (λ n. n < length cs) (λ n. n < suc (length cs)) (p c) (q c) (lastIn p q cs) (run q cs) (λ n w. omega arith) (omega arith) (omega arith) (last-below p q a b k)
 
 -- the classes of the words, of numbers and of punctuation are without CR and LF
 upperish-avoids : Avoids upperish
@@ -121,7 +108,7 @@ case-lt : {xs : List ℕ} → Closed xs → caseEnd xs < length xs
 unfolding caseEnd
 case-lt {xs} k = by (lastIn upperish lowerish xs) (last-below upperish lowerish upperish-avoids lowerish-avoids k)
   where
-    by : (m : Option ℕ) → Below (length xs) m → Option·getD m (run upperish xs) < length xs
+    by : (m : Option ℕ) → AllO (λ n. n < length xs) m → Option·getD m (run upperish xs) < length xs
     by none w = run-lt upperish upperish-avoids k
     by (some n) w = w
 
@@ -134,22 +121,17 @@ abbrev allDodge : List String → Bool
 allDodge [] = true
 allDodge (w ∷ ws) = and (dodges w) (allDodge ws)
 
-and-left : (a b : Bool) → and a b ≡ true → a ≡ true
-and-left true b h = refl
-and-left false b h = h
-
-not-true : (b : Bool) → not b ≡ true → b ≡ false
-not-true true h = sym h
-not-true false h = refl
-
 spells-closed : (w : String) → dodges w ≡ true → (ys : List ℕ) {zs : List ℕ} → Closed zs → spells w (zs ++ ys) ≡ spells w zs
 spells-closed []ˢ d ys k = refl
-spells-closed (a ∷ˢ w) d ys (here {c} h) = rw (newline-elim (λ c. eitherCase (code a) c ≡ false) (not-true (eitherCase (code a) 10) (and-left (not (eitherCase (code a) 10)) _ d)) (not-true (eitherCase (code a) 13) (and-left (not (eitherCase (code a) 13)) _ (and-right (not (eitherCase (code a) 10)) _ d))) c h)
-spells-closed (a ∷ˢ w) d ys (there {c} {cs} k) = rw (spells-closed w (and-right (not (eitherCase (code a) 13)) _ (and-right (not (eitherCase (code a) 10)) _ d)) ys k)
+spells-closed (a ∷ˢ w) d ys (here {c} h) =
+    let x = and-both (not (eitherCase (code a) 10)) _ d in
+    let y = and-both (not (eitherCase (code a) 13)) _ (x .1) in
+    rw (newline-elim (λ c. eitherCase (code a) c ≡ false) (not-true (eitherCase (code a) 10) (x .0)) (not-true (eitherCase (code a) 13) (y .0)) c h)
+spells-closed (a ∷ˢ w) d ys (there k) = rw (spells-closed w (and-both (not (eitherCase (code a) 13)) _ (and-both (not (eitherCase (code a) 10)) _ d .1) .1) ys k)
 
 words-closed : (ws : List String) → allDodge ws ≡ true → (ys : List ℕ) {zs : List ℕ} → Closed zs → firstFit ws (zs ++ ys) ≡ firstFit ws zs
 words-closed [] d ys k = refl
-words-closed (w ∷ ws) d ys k = rw (spells-closed w (and-left (dodges w) _ d) ys k, words-closed ws (and-right (dodges w) _ d) ys k)
+words-closed (w ∷ ws) d ys k = rw (spells-closed w (and-both (dodges w) _ d .0) ys k, words-closed ws (and-both (dodges w) _ d .1) ys k)
 
 suffix-closed : (o : Options) (ys : List ℕ) {zs : List ℕ} → Closed zs → suffixEnd o (zs ++ ys) ≡ suffixEnd o zs
 unfolding suffixEnd
@@ -238,15 +220,15 @@ fresh-tail o (y ∷ ys) h = rw (run-step (tail (o .slash)) y ys, tail-is (o .sla
     by : (b n q s d : Bool) → (n ≡ true → b ≡ true) → and (cond b (and (not n) q) true) (or (not s) (and (not d) true)) ≡ true → cond (or n (and s d)) (suc (run (tail (o .slash)) ys)) 0 ≡ 0
     by true true q s d w h = cc
     by false true q s d w h = cc (w refl)
-    by b false q true true w h = cc (and-right (cond b q true) false h)
+    by b false q true true w h = cc (and-both (cond b q true) false h .1)
     by b false q true false w h = refl
     by b false q false d w h = refl
 
 fresh-quiet : (o : Options) (ys : List ℕ) → fresh o ys ≡ true → lastIn white newline ys ≡ none
 unfolding fresh quiet
-fresh-quiet o ys h = quiet-last ys (and-left (quiet ys) _ h)
+fresh-quiet o ys h = quiet-last ys (and-both (quiet ys) _ h .0)
 
--- THE RECORD LEMMA, of the closed form
+-- a step of the closed form is the one that the text has alone
 step-closed : (o : Options) (ys : List ℕ) {xs : List ℕ} → fresh o ys ≡ true → Closed xs → step o (xs ++ ys) ≡ step o xs
 unfolding step stepBy
 step-closed o ys f (here {c} h) = rw (newline-white c h, h) (space-closed ys (fresh-quiet o ys f) (here h))

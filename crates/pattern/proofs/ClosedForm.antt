@@ -1,5 +1,5 @@
 -- The first token of the pattern is one step of the closed form.
-use mathlib.Core.Bool.{Bool, true, false, cond, true≢false, _&&_ as and, _||_ as or, not}
+use mathlib.Core.Bool.{Bool, true, false, cond, _&&_ as and, not}
 use mathlib.Core.Path.{_≡_, refl, sym, ap, _∙_, fun-ext}
 use mathlib.Core.List.{List, [], _∷_}
 use mathlib.Core.Option.{Option, none, some, Option·getD}
@@ -8,16 +8,17 @@ use native.Mathlib.Nat.{add-zero, zero-add, suc-add}
 use native.Mathlib.Omega.{arith}
 use Prim.Native.String.{String, count}
 use lib.ListN.{drop}
-use lib.Dec.{eqb→eq}
-use Rattle.classes.specs.Classes.{classOf, same, isLetter}
+use Rattle.classes.specs.Classes.{classOf}
 use Rattle.classes.specs.declared.Class.{Class}
 use Rattle.classes.specs.declared.Class.the-variants.{Upper, Lower, Caseless, Mark, Number, Whitespace, Other}
 use Rattle.pattern.specs.Regex.{Piece, opt, many, some as plus, notAhead, just, nonWhite, holds, run, down, spells, wordsHere}
-use Rattle.pattern.proofs.Trial.{opens, first-trials, run-step, or-assoc, or-none, stop, orElse, up, orZero, tryEach, three, trialPiece, trial, trialOne, trialMany}
-use Rattle.pattern.proofs.Runs.{lastStep, lastIn, after, mapO, many-total, many-some, last-after}
+use Rattle.pattern.proofs.Trial.{opens, first-trials, or-assoc, or-none, stop, orElse, up, orZero, tryEach, three, trialPiece, trial, trialOne, trialMany}
+use Rattle.pattern.proofs.Runs.{run-step, after, lastStep, lastIn, last-after}
+use Rattle.pattern.proofs.Greedy.{mapO, many-total, many-some}
 use Rattle.pattern.specs.declared.Options.{Options}
 use Rattle.pattern.specs.Pattern.{alternatives, suffix, digits, token, space, upperish as upperSet, lowerish as lowerSet, white as whiteSet, punct as punctSet, newline as newlineSet, prefix as prefixSet, tail as tailSet}
 use Rattle.pattern.proofs.Step.{upperish, lowerish, number, white, punct, newline, prefix, tail, is, isPrefix, isUpperish, isLowerish, isWhite, isWordy, wordy, caseEnd, firstFit, suffixTable, suffixEnd, wordEnd, punctEnd, isEnd, keep, spaceEnd, groupOf, stepBy, step}
+use Rattle.pattern.proofs.Sets.{newline-white, newline-is-not-space, space-white, prefix-is}
 
 -- the suffix: the first word that stands there
 words-are : (ws : List String) (cs : List ℕ) → orElse (tryEach (wordsHere ws cs) stop cs) (some 0) ≡ some (firstFit ws cs)
@@ -82,68 +83,6 @@ word-is o (c ∷ cs) = rw (lower-is o (c ∷ cs), upper-is o c cs, run-step uppe
     by Number m r u z = refl
     by Whitespace m r u z = refl
     by Other m r u z = refl
-
--- what the table says of the characters that the pattern names
-is-elim : (P : ℕ → Type 0) (a c : ℕ) → P a → is a c ≡ true → P c
-is-elim P a c x e = rw (eqb→eq c a (rw e tt)) x
-
-pub newline-elim : (P : ℕ → Type 0) → P 10 → P 13 → (c : ℕ) → newline c ≡ true → P c
-unfolding holds
-newline-elim P x y c e = go (is 13 c) refl (is 10 c) refl e
-  where
-    go : (a : Bool) → is 13 c ≡ a → (b : Bool) → is 10 c ≡ b → or a (or b false) ≡ true → P c
-    go true p b q h = is-elim P 13 c y p
-    go false p true q h = is-elim P 10 c x q
-    go false p false q h = absurd (true≢false (sym h))
-
-pub newline-white : (c : ℕ) → newline c ≡ true → classOf c ≡ Whitespace
-unfolding classOf
-newline-white = newline-elim (λ c. classOf c ≡ Whitespace) refl refl
-
-pub newline-is-white : (c : ℕ) → newline c ≡ true → white c ≡ true
-unfolding holds
-newline-is-white c h = ap isWhite (newline-white c h)
-
-pub newline-is-not-space : (c : ℕ) → newline c ≡ true → is 32 c ≡ false
-newline-is-not-space = newline-elim (λ c. is 32 c ≡ false) refl refl
-
-pub space-white : (c : ℕ) → is 32 c ≡ true → classOf c ≡ Whitespace
-unfolding classOf
-space-white c e = is-elim (λ c. classOf c ≡ Whitespace) 32 c refl e
-
--- the tail: CR, LF and, with the slash option, slash
-pub tail-is : (b : Bool) (c : ℕ) → tail b c ≡ or (newline c) (and b (is 47 c))
-unfolding holds
-tail-is true c = by (is 13 c) (is 10 c) (is 47 c)
-  where
-    by : (x y z : Bool) → or x (or y (or z false)) ≡ or (or x (or y false)) z
-    by true y z = refl
-    by false true z = refl
-    by false false true = refl
-    by false false false = refl
-tail-is false c = by (newline c)
-  where
-    by : (x : Bool) → x ≡ or x false
-    by true = refl
-    by false = refl
-
-prefix-is : (c : ℕ) → prefix c ≡ and (isPrefix (classOf c)) (not (newline c))
-unfolding holds
-prefix-is c = by (is 13 c) (is 10 c) (classOf c)
-  where
-    by : (a b : Bool) (k : Class) → not (or a (or b (or (isLetter k) (or (same Number k) false)))) ≡ and (isPrefix k) (not (or a (or b false)))
-    by a b k = go a b (isLetter k) (same Number k)
-      where
-        go : (a b l n : Bool) → not (or a (or b (or l (or n false)))) ≡ and (not (or l n)) (not (or a (or b false)))
-        go true b true n = refl
-        go true b false true = refl
-        go true b false false = refl
-        go false true true n = refl
-        go false true false true = refl
-        go false true false false = refl
-        go false false true n = refl
-        go false false false true = refl
-        go false false false false = refl
 
 -- alternatives 1 and 2, with the prefix
 words : Options → List ℕ → Option ℕ

@@ -1,6 +1,8 @@
-pub mod Trial
 pub mod Runs
+pub mod Trial
+pub mod Greedy
 pub mod Step
+pub mod Sets
 pub mod ClosedForm
 pub mod Bounds
 pub mod Accepted

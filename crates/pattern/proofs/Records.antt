@@ -18,7 +18,7 @@ use Rattle.pattern.specs.Regex.{holds}
 use Rattle.pattern.specs.Pattern.{newline, token}
 use Rattle.pattern.specs.Answers.{passes, limit, checks, endsFrom, endsAt}
 use Rattle.pattern.specs.Records.{endsLine, fresh, Records, last, more, join, endsOfEach}
-use Rattle.pattern.proofs.ClosedForm.{newline-elim}
+use Rattle.pattern.proofs.Sets.{newline-elim}
 use Rattle.pattern.proofs.Bounds.{token-good}
 use Rattle.pattern.proofs.Accepted.{accepted, accepts}
 use Rattle.pattern.proofs.Closed as c

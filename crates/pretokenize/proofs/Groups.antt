@@ -15,7 +15,7 @@ use Rattle.classes.proofs.Scan.{same-is}
 use Rattle.pattern.specs.declared.Options.{Options}
 use Rattle.pattern.specs.Regex.{holds, run}
 use Rattle.pattern.specs.Pattern.{token}
-use Rattle.pattern.proofs.Trial.{run-step}
+use Rattle.pattern.proofs.Runs.{run-step}
 use Rattle.pattern.proofs.Step.{number, groupOf, stepBy, step}
 use Rattle.pattern.proofs.ClosedForm.{token-is-step}
 use Rattle.scanners.specs.Scan.{span, groups, NextGroup, Known, Advanced}

@@ -13,7 +13,7 @@ use Rattle.classes.specs.declared.Class.{Class}
 use Rattle.classes.specs.declared.Class.the-variants as k
 use Rattle.classes.proofs.Scan.{same-is}
 use Rattle.pattern.proofs.Step.{isWordy, isNumber, isWhite, newline, is}
-use Rattle.pattern.proofs.ClosedForm.{newline-white, newline-is-not-space, space-white}
+use Rattle.pattern.proofs.Sets.{newline-white, newline-is-not-space, space-white}
 use Rattle.scanners.specs.Place.{Stands}
 use Rattle.scanners.specs.Scan.{moved}
 use Rattle.scanners.specs.Start.{orStart, prefixedStart, spaceBefore, spaceStart, afterSpace, firstStart, startOf}

@@ -1,6 +1,6 @@
 -- The letters of a suffix: what the bytes at a place say of the characters there.
 use Prim.Native.Nat.{ℕ, _+_, _/_, _%_, _≤_}
-use mathlib.Core.Bool.{Bool, true, false, _||_ as or, _&&_ as and}
+use mathlib.Core.Bool.{Bool, true, false, _||_ as or, _&&_ as and, and-true, or-false}
 use mathlib.Core.List.{List, [], _∷_, _++_}
 use mathlib.Core.Path.{_≡_, refl, sym, _∙_, ap}
 use native.Mathlib.Omega.{arith}
@@ -37,14 +37,6 @@ low s p = lowered (getD s p 0)
 pub record Small (a : ℕ) : Type 0 where
   pub from : 97 ≤ a
   pub to : a ≤ 122
-
-and-true : (b : Bool) → and b true ≡ b
-and-true true = refl
-and-true false = refl
-
-or-false : (b : Bool) → or b (and true false) ≡ b
-or-false true = refl
-or-false false = refl
 
 -- a small letter in either case is its lower-case form
 letter : (a c : ℕ) → Small a → eitherCase a c ≡ eqb (lowered c) a

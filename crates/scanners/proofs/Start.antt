@@ -1,6 +1,6 @@
 -- Which scanner a token is for: what each answers from there is the closed form's token.
 use Prim.Native.Nat.{ℕ, suc, _+_, _<_}
-use mathlib.Core.Bool.{Bool, true, false, cond, _&&_ as and}
+use mathlib.Core.Bool.{Bool, true, false, cond, _&&_ as and, and-false}
 use mathlib.Core.List.{List, [], _∷_}
 use mathlib.Core.Option.{none}
 use mathlib.Core.Path.{_≡_, refl, sym, _∙_, ap, subst}
@@ -15,10 +15,11 @@ use Rattle.classes.specs.declared.Class.the-variants as k
 use Rattle.pattern.specs.declared.Options.{Options}
 use Rattle.pattern.specs.Regex.{holds, run}
 use Rattle.pattern.specs.Pattern.{token}
-use Rattle.pattern.proofs.Trial.{opens, run-step}
-use Rattle.pattern.proofs.Runs.{lastIn, after}
+use Rattle.pattern.proofs.Trial.{opens}
+use Rattle.pattern.proofs.Runs.{run-step, after, lastIn}
 use Rattle.pattern.proofs.Step.{isWordy, isNumber, isPunct, isWhite, wordy, number, white, punct, newline, is, tail, caseEnd, firstFit, suffixTable, suffixEnd, wordEnd, punctEnd, spaceEnd, isEnd, keep, groupOf, stepBy, step}
-use Rattle.pattern.proofs.ClosedForm.{token-is-step, newline-white}
+use Rattle.pattern.proofs.Sets.{newline-white}
+use Rattle.pattern.proofs.ClosedForm.{token-is-step}
 use Rattle.scanners.specs.Place.{Whole, Stands}
 use Rattle.scanners.specs.Scan.{span, runWidth, suffixSpan, suffixWidth, ended, moved, turned, caseStop}
 use Rattle.scanners.specs.Start.{orStart, prefixedStart, spaceStart, afterSpace, firstStart, startOf}
@@ -119,10 +120,6 @@ leaves : (at : ℕ) (cs : List ℕ) → turned (U 0) at cs ≡ Stop → opens wo
 unfolding turned opens wordy
 leaves at [] q = refl
 leaves at (c ∷ cs) q = wordy-stop (classOf c) (at + width c) q
-
-and-false : (b : Bool) → and b false ≡ false
-and-false true = refl
-and-false false = refl
 
 white-is : (c : ℕ) → classOf c ≡ k.Whitespace → white c ≡ true
 unfolding holds

@@ -1,6 +1,6 @@
--- By cases on a test of numbers, with what the test says.
+-- By cases on a test, with what the test says of its parts or of its numbers.
 use Prim.Native.Nat.{ℕ, _<_, _≤_}
-use mathlib.Core.Bool.{Bool, true, false}
+use mathlib.Core.Bool.{Bool, true, false, cond, not, _&&_}
 use mathlib.Core.Path.{_≡_, refl, sym}
 use native.Mathlib.Omega.{arith}
 use lib.Dec.{leb}
@@ -10,6 +10,10 @@ use Rattle.utf8.specs.Utf8.{pick, within}
 pub by-bool : {P : Type 0} (b : Bool) → (b ≡ true → P) → (b ≡ false → P) → P
 by-bool true f g = f refl
 by-bool false f g = g refl
+
+pub by-cond : {A : Type 0} (P : A → Type 0) (b : Bool) {x y : A} → P x → P y → P (cond b x y)
+by-cond P true f g = f
+by-cond P false f g = g
 
 pub by-le : {P : Type 0} (a b : ℕ) → (a ≤ b → P) → (b < a → P) → P
 by-le a b f g = by-bool (leb a b) (λ e. f (leb-true a b e)) (λ e. g (leb-false a b e))
@@ -24,6 +28,14 @@ by-within P a b z {x} {y} f g = go (leb a b) (leb b z) (leb-true a b) (leb-true 
 
 pub never : {P : Type 0} → true ≡ false → P
 never e = absurd (let z : _≡_ {A = ℕ} 0 1 = cc in omega arith)
+
+pub not-true : (b : Bool) → not b ≡ true → b ≡ false
+not-true true e = sym e
+not-true false e = refl
+
+pub and-both : (a b : Bool) → (a && b) ≡ true → (a ≡ true) × (b ≡ true)
+and-both true b e = (refl, e)
+and-both false b e = never (sym e)
 
 pub both : (a b : Bool) → pick a b false ≡ true → (a ≡ true) × (b ≡ true)
 both true b e = (refl, e)
