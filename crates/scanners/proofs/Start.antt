@@ -35,7 +35,7 @@ use Rattle.scanners.proofs.Ended.{ended-at, went}
 use Rattle.scanners.proofs.Case.{stop-go, case-goes, case-whole, turned-at}
 use Rattle.scanners.proofs.Spans.{span-none, span-add, span-cons, chars-past, whole-past}
 
--- a letter run that is entered past its first character, at f in the state st, and its suffix; it begins a bytes before the text's n-th
+-- a letter run entered past its first character, at f in the state st, and its suffix: the token ends at end
 pub record Letters (o : Options) (s : List ℕ) (f : ℕ) (st : CaseState) (end : ℕ) : Type 0 where
   pub from : Whole s f
   pub to : Whole s (caseStop st f (charsAt s f))

@@ -1,4 +1,4 @@
--- `classes::rank_of` meets its contract: each arm gives the rank of its class. It is written out so that a wrong program is refused for the fact itself.
+-- `classes::rank_of` meets its contract: each arm gives its class's rank; it is written out so that a wrong program is refused for the fact itself.
 -- Assumes nothing.
 use borrow.Author.Needs.{needs}
 use Rattle.classes.proofs.rank_of.Statement.{statement}

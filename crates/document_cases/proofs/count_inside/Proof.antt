@@ -1,4 +1,4 @@
--- `document_cases::count_inside` meets its contract.
+-- `document_cases::count_inside` meets its contract: each character adds at most three.
 -- Assumes nothing.
 use Prim.Native.Nat.{_-_, _*_, _≤_}
 use borrow.Author.Needs.{needs}

@@ -1,4 +1,4 @@
--- `document_cases::more_bytes` meets its contract.
+-- `document_cases::more_bytes` meets its contract: a byte repeated so often is so long.
 -- Assumes nothing.
 use mathlib.Core.Path.{sym}
 use lib.ListN.{length-replicate}

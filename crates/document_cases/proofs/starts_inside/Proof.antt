@@ -1,4 +1,4 @@
--- `document_cases::starts_inside` meets its contract.
+-- `document_cases::starts_inside` meets its contract: the start stays within the character, which has at most four bytes.
 -- Assumes nothing.
 use Prim.Native.Nat.{_-_, _≤_}
 use mathlib.Core.Path.{_≡_, sym}

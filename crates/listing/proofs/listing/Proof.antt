@@ -1,4 +1,4 @@
--- `listing::listing` meets its contract.
+-- `listing::listing` meets its contract: each branch writes the lines of its case, and there is room for the longest.
 -- Assumes nothing.
 use borrow.Author.Needs.{needs}
 use Prim.Native.Nat.{ℕ, _≤_}

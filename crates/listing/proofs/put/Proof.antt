@@ -1,4 +1,4 @@
--- `listing::put` meets its contract.
+-- `listing::put` meets its contract: the words stand on the front, and the digits on the front of what is behind them.
 -- Assumes nothing.
 use borrow.Author.Needs.{needs}
 use Prim.Native.Nat.{_-_}

@@ -1,4 +1,4 @@
--- `listing::put_ends` meets its contract.
+-- `listing::put_ends` meets its contract: the line of the count stands on the front, and the lines of the ends behind it.
 -- Assumes nothing.
 use borrow.Author.Needs.{needs}
 use Prim.Native.Nat.{ℕ}

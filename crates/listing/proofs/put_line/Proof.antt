@@ -1,4 +1,4 @@
--- `listing::put_line` meets its contract.
+-- `listing::put_line` meets its contract: LF stands behind the words and the number.
 -- Assumes nothing.
 use borrow.Author.Needs.{needs}
 use mathlib.Core.List.{[], _∷_, _++_}

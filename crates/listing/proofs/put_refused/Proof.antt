@@ -1,4 +1,4 @@
--- `listing::put_refused` meets its contract.
+-- `listing::put_refused` meets its contract: the refusal's number stands on the front, and its place with LF behind it.
 -- Assumes nothing.
 use borrow.Author.Needs.{needs}
 use Prim.Native.Nat.{ℕ, _≤_}

@@ -1,4 +1,4 @@
--- `njuxaleet::njuxaleet_class_of` meets its contract.
+-- `njuxaleet::njuxaleet_class_of` meets its contract: each arm hands out the numbers of what `class_of` answers.
 -- Assumes nothing.
 use borrow.Author.Needs.{needs}
 use mathlib.Core.Path.{sym, _∙_, ap}

@@ -1,4 +1,4 @@
--- `njuxaleet::njuxaleet_fill` meets its contract.
+-- `njuxaleet::njuxaleet_fill` meets its contract: each arm hands out the numbers of what `fill` answers.
 -- Assumes nothing.
 use borrow.Author.Needs.{needs}
 use mathlib.Core.Path.{sym, _∙_, ap}

@@ -1,4 +1,4 @@
--- `njuxaleet::njuxaleet_next_end` meets its contract.
+-- `njuxaleet::njuxaleet_next_end` meets its contract: each arm hands out the numbers of what `next_end` answers.
 -- Assumes nothing.
 use borrow.Author.Needs.{needs}
 use mathlib.Core.Path.{sym, _∙_, ap}

@@ -1,4 +1,4 @@
--- `replay::line_end` meets its contract.
+-- `replay::line_end` meets its contract: the place stays between the start and the length.
 -- Assumes nothing.
 use Prim.Native.Nat.{_-_, _≤_}
 use borrow.Author.Needs.{needs}

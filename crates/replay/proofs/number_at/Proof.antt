@@ -1,4 +1,4 @@
--- `replay::number_at` meets its contract.
+-- `replay::number_at` meets its contract: at most eighteen digits are read, so that nothing wraps.
 -- Assumes nothing.
 use Prim.Native.Nat.{_-_, _<_, _≤_}
 use borrow.Author.Needs.{needs}

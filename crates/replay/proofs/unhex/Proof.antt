@@ -1,4 +1,4 @@
--- `replay::unhex` meets its contract.
+-- `replay::unhex` meets its contract: the text keeps its length, and the count stays within it.
 -- Assumes nothing.
 use Prim.Native.Nat.{_-_, _≤_}
 use mathlib.Core.Path.{_≡_, _∙_}

@@ -1,4 +1,4 @@
--- `pretokenize::entry::groups_past` meets its contract.
+-- `pretokenize::entry::groups_past` meets its contract: its test is the definition's.
 -- Assumes nothing.
 use borrow.Author.Needs.{needs}
 use borrow.Author.Tests.{eq-eqb, ne-eqb}

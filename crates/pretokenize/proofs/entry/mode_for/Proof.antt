@@ -1,4 +1,4 @@
--- `pretokenize::entry::mode_for` meets its contract.
+-- `pretokenize::entry::mode_for` meets its contract: its test is the definition's.
 -- Assumes nothing.
 use borrow.Author.Tests.{eq-eqb, ne-eqb}
 use Rattle.pretokenize.proofs.entry.mode_for.Statement.{statement}

@@ -1,4 +1,4 @@
--- `pretokenize::entry::Walker::step` meets its contract.
+-- `pretokenize::entry::Walker::step` meets its contract: the answer is that of `next_end`, and says where the walker goes.
 -- Assumes nothing.
 use mathlib.Core.Path.{sym, _∙_, ap}
 use borrow.Author.Needs.{needs}

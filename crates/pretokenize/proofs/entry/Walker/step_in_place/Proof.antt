@@ -1,5 +1,5 @@
--- `pretokenize::entry::Walker::step_in_place` meets its contract: a walk of its MIR, by hand. The borrow is opened, the walker is copied out and passed to `Walker::step` with the text; of the struct that it returns, the walker is stored where the old one stood, and the answer is returned; the borrow is closed at the moved walker.
--- All that the proof knows of `Walker::step` is that it meets its contract.
+-- `pretokenize::entry::Walker::step_in_place` meets its contract, by a walk of its MIR: the walker is copied out of the borrow and passed to `Walker::step` with the text, and the one that comes back is stored in its place.
+-- Of `Walker::step` the proof knows only that it meets its contract.
 -- Assumes nothing.
 use mathlib.Core.Path.{_≡_, refl, ap}
 use Prim.Native.Nat.{ℕ}
