@@ -3,8 +3,7 @@ use mathlib.Core.Bool.{Bool}
 use mathlib.Core.List.{List}
 use mathlib.Core.Path.{_≡_, refl, sym, _∙_, ap}
 use Prim.Native.Nat.{ℕ}
-use Rattle.classes.specs.Classes.{Said, gives, says}
-use Rattle.classes.specs.Rows.{answer}
+use Rattle.classes.specs.Classes.{Said, gives, says, answer}
 use Rattle.classes.specs.declared.Class.{Class}
 use Rattle.classes.specs.declared.Asked.{Asked}
 use Rattle.classes.specs.declared.Asked.the-variants.{Is, NoScalar}

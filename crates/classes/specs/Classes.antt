@@ -6,6 +6,8 @@ use lib.Dec.{leb, eqb}
 use Rattle.utf8.specs.Utf8.{pick, within, scalar}
 use Rattle.classes.specs.Range.{Range, range}
 use Rattle.classes.specs.Ranges.{ranges}
+use Rattle.classes.specs.declared.Asked.{Asked}
+use Rattle.classes.specs.declared.Asked.the-variants.{Is, NoScalar}
 use Rattle.classes.specs.declared.Class.{Class}
 use Rattle.classes.specs.declared.Class.the-variants.{Upper, Lower, Caseless, Mark, Number, Whitespace, Other}
 
@@ -55,9 +57,13 @@ pub data Said (A : Type 0) : Type 0 where
   gives : A → Said A
   says : ℕ → ℕ → Said A
 
--- what is said of a number whose class is asked
+-- what is said of a number whose class is asked, and what the answers of `class_of` stand for
 unfoldable pub classSaid : ℕ → Said Class
 classSaid c = pick (scalar c) (gives (classOf c)) (says 6 0)
+
+abbrev pub answer : Asked → Said Class
+answer (Is k) = gives k
+answer NoScalar = says 6 0
 
 -- a byte that is an ASCII character of a class, and one that is an ASCII letter
 abbrev pub asciiIs : Class → ℕ → Bool

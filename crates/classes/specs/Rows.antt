@@ -1,15 +1,13 @@
--- Ranges as the rows of numbers that the code looks up, and what the answers of the code stand for.
+-- Ranges as the rows of numbers that the code looks up, and what the rows say.
 use mathlib.Core.List.{List, [], _∷_}
 use Prim.Native.Nat.{ℕ, zero, suc}
 use Rattle.classes.specs.Range.{Range, range}
 use Rattle.classes.specs.Ranges.{ranges}
-use Rattle.classes.specs.Classes.{classIn, whiteSpace, rank, Said, gives, says}
+use Rattle.classes.specs.Classes.{classIn, whiteSpace, rank}
 use Rattle.classes.specs.declared.Class.{Class}
 use Rattle.classes.specs.declared.Class.the-variants.{Upper, Lower, Caseless, Mark, Number, Whitespace, Other}
 use Rattle.classes.specs.declared.Listed.{Listed}
 use Rattle.classes.specs.declared.Listed.the-variants.{As, Nowhere}
-use Rattle.classes.specs.declared.Asked.{Asked}
-use Rattle.classes.specs.declared.Asked.the-variants.{Is, NoScalar}
 
 -- the class of a rank
 abbrev pub named : ℕ → Class
@@ -41,11 +39,7 @@ unfoldable pub classAt : List ℕ → ℕ → Class
 unfolding rangesOf classIn whiteSpace
 classAt t c = classIn (rangesOf t) c (classIn whiteSpace c Other)
 
--- what the code's answers stand for
+-- the class that some rows say, or one that is given
 abbrev pub orElse : Listed → Class → Class
 orElse (As j) k = j
 orElse Nowhere k = k
-
-abbrev pub answer : Asked → Said Class
-answer (Is k) = gives k
-answer NoScalar = says 6 0

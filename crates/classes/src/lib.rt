@@ -4,8 +4,8 @@ mod ranges;
 ghost use mathlib.Core.Path.{_≡_};
 ghost use Rattle.utf8.specs.Utf8.{scalar, within as between};
 ghost use Rattle.classes.specs.declared.Class.{Class as ClassOf};
-ghost use Rattle.classes.specs.Classes.{classIn, whiteSpace, rank, classSaid, asciiIs, asciiLetter};
-ghost use Rattle.classes.specs.Rows.{named, rangesOf, orElse, classAt, table, answer};
+ghost use Rattle.classes.specs.Classes.{classIn, whiteSpace, rank, classSaid, asciiIs, asciiLetter, answer};
+ghost use Rattle.classes.specs.Rows.{named, rangesOf, orElse, classAt, table};
 
 // The seven classes of document 01, in its order.
 pub enum Class {

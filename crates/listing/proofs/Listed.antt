@@ -8,7 +8,7 @@ use lib.Seq.{take-append-seam}
 use Rattle.pattern.specs.declared.Options.{Options}
 use borrow.Author.Tests.{lt-ltb, le-ltb}
 use Rattle.pattern.specs.Pattern.{o200k}
-use Rattle.pattern.specs.Answers.{passes, no, checks, endsAt, written, fill, fillList}
+use Rattle.pattern.specs.Answers.{passes, fails, checks, endsAt, written, fill, fillList}
 use Rattle.pattern.proofs.Walk.{Climbs, there, past, climbs-le, climbs-length, walk-climbs, fill-whole}
 use Rattle.listing.specs.Listing.{sheetLimit, ascii, decimal, line, lines, endsLines, refusedLine, listing}
 use Rattle.listing.proofs.Decimal.{decimal-few}
@@ -23,7 +23,7 @@ module _ (s : List ℕ) where
     unfolding listing
     when-cut e = rw (le-ltb sheetLimit (length s) h, e)
 
-    pub when-refused : {n place : ℕ} → checks o200k s 0 ≡ no n place → listing s ≡ refusedLine n place
+    pub when-refused : {n place : ℕ} → checks o200k s 0 ≡ fails n place → listing s ≡ refusedLine n place
     unfolding listing
     when-refused e = rw (le-ltb sheetLimit (length s) h, e)
 
@@ -72,6 +72,6 @@ module _ {o : Options} (q : o ≡ o200k) (s : List ℕ) where
         within = omega (arith, n, ap length m, length-append (endsAt o s 0) (drop (length (endsAt o s 0)) old));
       }
 
-  pub refused : (room : ℕ) {n place : ℕ} → record { found = no n place; count = 0; next = 0 } ≡ fill o s 0 room → checks o200k s 0 ≡ no n place
+  pub refused : (room : ℕ) {n place : ℕ} → record { found = fails n place; count = 0; next = 0 } ≡ fill o s 0 room → checks o200k s 0 ≡ fails n place
   unfolding fill
-  refused room {n} {place} e = subst (λ x. checks x s 0 ≡ no n place) q (sym (ap (λ f. f .found) e))
+  refused room {n} {place} e = subst (λ x. checks x s 0 ≡ fails n place) q (sym (ap (λ f. f .found) e))

@@ -4,7 +4,7 @@ use Prim.Native.Nat.{ℕ}
 use Rattle.classes.specs.Classes.{Said, gives, says, rank}
 use Rattle.classes.specs.declared.Class.{Class}
 use Rattle.pattern.specs.declared.Options.{Options}
-use Rattle.pattern.specs.Answers.{Found, passes, no, Fill}
+use Rattle.pattern.specs.Answers.{Found, passes, fails, Fill}
 
 abbrev pub options : Bool → ℕ → Bool → Options
 options contractions digits slash = record { contractions = contractions; digits = digits; slash = slash }
@@ -21,11 +21,11 @@ endPlace (says n place) = place
 -- of a fill: the place is the next start where it is not refused
 abbrev pub foundNumber : Found → ℕ
 foundNumber passes = 0
-foundNumber (no n place) = n
+foundNumber (fails n place) = n
 
 abbrev pub foundPlace : ℕ → Found → ℕ
 foundPlace next passes = next
-foundPlace next (no n place) = place
+foundPlace next (fails n place) = place
 
 abbrev pub fillPlace : Fill → ℕ
 fillPlace f = foundPlace (f .next) (f .found)

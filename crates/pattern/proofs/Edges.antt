@@ -11,7 +11,7 @@ use Rattle.utf8.specs.Utf8.{charsAt}
 use Rattle.utf8.proofs.Tests.{by-bool}
 use Rattle.classes.specs.Classes.{gives, says}
 use Rattle.pattern.specs.declared.Options.{Options}
-use Rattle.pattern.specs.Answers.{Found, passes, no, checks, tokenEnd, nextEnd, tokenBytes, written, fill}
+use Rattle.pattern.specs.Answers.{Found, passes, fails, checks, tokenEnd, nextEnd, tokenBytes, written, fill}
 use Rattle.pattern.proofs.Accepted.{accepted}
 use Rattle.pattern.proofs.Walk.{token-is-whole, ends-none}
 
@@ -41,7 +41,7 @@ unfolding nextEnd
 next-in o s at {e} q = by (checks o s at) refl
   where
     by : (f : Found) → checks o s at ≡ f → (at < e) × (e ≤ length s)
-    by (no n p) r = absurd (let w : says n p ≡ gives e = rw r at q in let z : _≡_ {A = ℕ} 0 1 = cc in omega arith)
+    by (fails n p) r = absurd (let w : says n p ≡ gives e = rw r at q in let z : _≡_ {A = ℕ} 0 1 = cc in omega arith)
     by passes r =
         by-bool (eqb at (length s))
         (λ t. absurd (let w : says 0 (length s) ≡ gives e = rw (r, t) at q in let z : _≡_ {A = ℕ} 0 1 = cc in omega arith))

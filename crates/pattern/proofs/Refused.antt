@@ -10,7 +10,7 @@ use native.Mathlib.Omega.{arith}
 use Rattle.utf8.specs.Utf8.{chars, validLength, Valid, charStart}
 use Rattle.utf8.proofs.Inverse.{valid-room}
 use Rattle.pattern.specs.declared.Options.{Options}
-use Rattle.pattern.specs.Answers.{Found, passes, no, limit, row, checks}
+use Rattle.pattern.specs.Answers.{Found, passes, fails, limit, row, checks}
 
 module _ (o : Options) (s : List ℕ) (at : ℕ) where
   -- the number and the place of each refusal, and when it is given
@@ -24,7 +24,7 @@ module _ (o : Options) (s : List ℕ) (at : ℕ) where
   -- what is found is no refusal, or one of these
   abbrev Told : Found → Type 0
   Told passes = Unit {0}
-  Told (no n place) = Refused n place
+  Told (fails n place) = Refused n place
 
   told-row : (n : ℕ) (t : Bool) (place : ℕ) (later : Found) → (t ≡ true → Refused n place) → (t ≡ false → Told later) → Told (row n t place later)
   told-row n true place later f g = f refl
@@ -41,5 +41,5 @@ module _ (o : Options) (s : List ℕ) (at : ℕ) where
       (λ p. told-row 5 (ltb (charStart (chars s) at) at) (charStart (chars s) at) _ (λ e. inside (ltb-false _ _ m) (ltb-false _ _ l) v (ltb-false _ _ p) (ltb-true _ _ e))
       (λ _. tt)))))
 
-  pub refused-in-order : (n place : ℕ) → checks o s at ≡ no n place → Refused n place
+  pub refused-in-order : (n place : ℕ) → checks o s at ≡ fails n place → Refused n place
   refused-in-order n place e = subst Told e told

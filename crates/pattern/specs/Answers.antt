@@ -16,11 +16,11 @@ limit = 1048576
 -- what the checks say of a call: that it passes, or a number of the table and the place given
 pub data Found : Type 0 where
   passes : Found
-  no : ℕ → ℕ → Found
+  fails : ℕ → ℕ → Found
 
 -- a row of the table: if the test holds, the number and the place; else what the later rows say
 abbrev pub row : ℕ → Bool → ℕ → Found → Found
-row n t place later = pick t (no n place) later
+row n t place later = pick t (fails n place) later
 
 -- the rows in the order in which they are checked
 unfoldable pub checks : Options → List ℕ → ℕ → Found
@@ -35,7 +35,7 @@ checks o s at =
 -- an answer where the call passes, and one made of the number and the place where not
 abbrev pub ifPasses : {A : Type 0} → Found → A → (ℕ → ℕ → A) → A
 ifPasses passes x y = x
-ifPasses (no n place) x y = y n place
+ifPasses (fails n place) x y = y n place
 
 -- where the token at a place of a text ends
 unfoldable pub tokenEnd : Options → List ℕ → ℕ → ℕ

@@ -12,13 +12,13 @@ abbrev pub o200k : Options
 o200k = record { contractions = true; digits = 1; slash = true }
 
 -- the characters of a string, as items of a set
-abbrev pub chars : String → List Item
-chars []ˢ = []
-chars (a ∷ˢ s) = char a ∷ chars s
+abbrev pub items : String → List Item
+items []ˢ = []
+items (a ∷ˢ s) = char a ∷ items s
 
 -- not CR, LF, letter or Number
 abbrev pub prefix : Set
-prefix = except (chars "\r\n" ++ (letter ∷ kind Number ∷ []))
+prefix = except (items "\r\n" ++ (letter ∷ kind Number ∷ []))
 
 -- Upper, Caseless, Mark; Lower, Caseless, Mark
 abbrev pub upperish : Set
@@ -56,10 +56,10 @@ abbrev pub punct : Set
 punct = except (kind Whitespace ∷ letter ∷ kind Number ∷ [])
 
 abbrev pub newline : Set
-newline = among (chars "\r\n")
+newline = among (items "\r\n")
 
 abbrev pub tail : Bool → Set
-tail true = among (chars "\r\n/")
+tail true = among (items "\r\n/")
 tail false = newline
 
 abbrev pub white : Set

@@ -8,7 +8,7 @@ use lib.ListN.{length, take, drop, set, length-set, take-append-drop}
 use lib.Seq.{take-suc-set, drop-set-lt, drop-drop, append-snoc, length-take-le, take-nil}
 use Rattle.utf8.proofs.Place.{On}
 use Rattle.pattern.specs.declared.Options.{Options}
-use Rattle.pattern.specs.Answers.{passes, no, checks, tokenEnd, endsAt, lastOr, written, fill, fillList}
+use Rattle.pattern.specs.Answers.{passes, fails, checks, tokenEnd, endsAt, lastOr, written, fill, fillList}
 use Rattle.pattern.proofs.Walk.{end-on, ends-some, ends-none}
 
 last-snoc : (x : ℕ) (xs : List ℕ) (y : ℕ) → lastOr x (xs ++ (y ∷ [])) ≡ y
@@ -67,6 +67,6 @@ module _ (o : Options) (s : List ℕ) (start : ℕ) (old : List ℕ) where
     stops-over h = stops (over h)
 
   -- refused
-  pub refuses : {n p : ℕ} → no n p ≡ checks o s start → (record { found = no n p; count = 0; next = start } ≡ fill o s start (length old)) × (old ≡ fillList o s start old)
+  pub refuses : {n p : ℕ} → fails n p ≡ checks o s start → (record { found = fails n p; count = 0; next = start } ≡ fill o s start (length old)) × (old ≡ fillList o s start old)
   unfolding written fill fillList
   refuses e = rw (← e) (refl, refl)

@@ -8,7 +8,7 @@ use borrow.Author.Tests.{eq-eqb, ne-eqb}
 use Rattle.classes.specs.Classes.{gives, says}
 use Rattle.utf8.proofs.Tests.{by-le}
 use Rattle.pattern.specs.declared.Options.{Options}
-use Rattle.pattern.specs.Answers.{passes, no, checks, nextEnd, tokenEnd, endsAt, written, fill}
+use Rattle.pattern.specs.Answers.{passes, fails, checks, nextEnd, tokenEnd, endsAt, written, fill}
 use Rattle.pattern.proofs.Accepted.{accepted, on}
 use Rattle.pattern.proofs.Walk.{end-past, ends-some, ends-none}
 
@@ -45,6 +45,6 @@ module _ (o : Options) (s : List ℕ) (at : ℕ) where
     pub one-found : (n ≡ at → ⊥) → gives n ≡ nextEnd o s at
     one-found = found passed (ap (λ f. f .next) e)
 
-  pub one-refused : {n place : ℕ} → record { found = no n place; count = 0; next = at } ≡ fill o s at 1 → says n place ≡ nextEnd o s at
+  pub one-refused : {n place : ℕ} → record { found = fails n place; count = 0; next = at } ≡ fill o s at 1 → says n place ≡ nextEnd o s at
   unfolding fill nextEnd
   one-refused e = let r = sym (ap (λ f. f .found) e) in rw r

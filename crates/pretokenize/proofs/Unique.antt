@@ -12,7 +12,7 @@ use ghost.Atoms.{Atoms}
 use contract.Monad.{Fun, fact}
 use Rattle.classes.specs.Classes.{Said, gives, says}
 use Rattle.classes.proofs.Unique.{one}
-use Rattle.pattern.specs.Answers.{Found, passes, no, Fill}
+use Rattle.pattern.specs.Answers.{Found, passes, fails, Fill}
 use Rattle.pretokenize.specs.declared.entry.Refusal.{Refusal}
 use Rattle.pretokenize.specs.declared.entry.Refusal.the-variants.{Mode, Long, Damaged, Past, Inside}
 use Rattle.pretokenize.specs.declared.entry.Verdict.{Verdict}
@@ -52,7 +52,7 @@ same-refusal (Inside p) = refl
 
 found-back : Found → Verdict
 found-back passes = v.Passed
-found-back (no n p) = v.Refused (refusal n p)
+found-back (fails n p) = v.Refused (refusal n p)
 
 same-verdict : (x : Verdict) → found-back (verdict x) ≡ x
 unfolding found-back
@@ -76,7 +76,7 @@ same-end (n.Refused (Inside p)) = refl
 
 fill-by : Found → ℕ → ℕ → Filled
 fill-by passes c m = f.Ends c m
-fill-by (no n p) c m = f.Refused (refusal n p)
+fill-by (fails n p) c m = f.Refused (refusal n p)
 
 fill-back : Fill → Filled
 fill-back x = fill-by (x .found) (x .count) (x .next)

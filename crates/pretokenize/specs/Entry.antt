@@ -3,7 +3,7 @@ use mathlib.Core.List.{List}
 use Prim.Native.Nat.{ℕ}
 use Rattle.classes.specs.Classes.{Said, gives, says}
 use Rattle.pattern.specs.declared.Options.{Options}
-use Rattle.pattern.specs.Answers.{limit, Found, passes, no, nextEnd, Fill}
+use Rattle.pattern.specs.Answers.{limit, Found, passes, fails, nextEnd, Fill}
 use Rattle.pretokenize.specs.declared.entry.Refusal.{Refusal}
 use Rattle.pretokenize.specs.declared.entry.Refusal.the-variants.{Mode, Long, Damaged, Past, Inside}
 use Rattle.pretokenize.specs.declared.entry.Verdict.{Verdict}
@@ -30,7 +30,7 @@ place (Inside p) = p
 
 abbrev pub verdict : Verdict → Found
 verdict v.Passed = passes
-verdict (v.Refused r) = no (number r) (place r)
+verdict (v.Refused r) = fails (number r) (place r)
 
 abbrev pub said : NextEnd → Said ℕ
 said (n.At e) = gives e
@@ -40,7 +40,7 @@ said (n.Refused r) = says (number r) (place r)
 -- a refused fill counts 0 and gives the start again
 abbrev pub filled : ℕ → Filled → Fill
 filled start (f.Ends count next) = record { found = passes; count = count; next = next }
-filled start (f.Refused r) = record { found = no (number r) (place r); count = 0; next = start }
+filled start (f.Refused r) = record { found = fails (number r) (place r); count = 0; next = start }
 
 -- where a token's bytes stand in the caller's text: at the start; of no token, at 0
 abbrev pub placeOf : ℕ → Said ℕ → ℕ

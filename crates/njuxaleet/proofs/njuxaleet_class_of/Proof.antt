@@ -2,7 +2,7 @@
 -- Assumes nothing.
 use borrow.Author.Needs.{needs}
 use mathlib.Core.Path.{sym, _∙_, ap}
-use Rattle.classes.specs.Rows.{answer}
+use Rattle.classes.specs.Classes.{answer}
 use Rattle.njuxaleet.specs.Exports.{classNumber, classRank}
 use Rattle.njuxaleet.proofs.njuxaleet_class_of.Statement.{statement}
 use Rattle.njuxaleet.proofs.njuxaleet_class_of.Tie as tie

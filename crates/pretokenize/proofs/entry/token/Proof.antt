@@ -7,8 +7,8 @@ use borrow.Author.Needs.{needs}
 use lib.ListN.{length}
 use Rattle.classes.specs.Classes.{gives}
 use Rattle.pattern.specs.Answers.{nextEnd, tokenBytes}
+use Rattle.pattern.proofs.Edges.{next-in}
 use Rattle.pretokenize.specs.Entry.{said, tokenPlace}
-use Rattle.pretokenize.proofs.Checks.{next-in}
 use Rattle.pretokenize.proofs.entry.token.Statement.{statement}
 use Rattle.pretokenize.proofs.entry.token.Tie as tie
 
