@@ -70,6 +70,7 @@ const WHITE_SPACE: [u32; 33] = [
     5,
 ];
 
+// The class ranges in rows: of each its first value, its last, and the rank of its class.
 pub fn table() -> Table
     ensures { λ r. ⌜ r ≡ table ⌝ }
 {
@@ -169,24 +170,28 @@ fn is_scalar(c: u32) -> bool
     within(0xe000, c, 0x10ffff)
 }
 
+// Is this byte a character of ASCII, and of the class Upper? A byte above 7F is none; so too below.
 pub fn is_upper_ascii(b: u8) -> bool
     ensures { λ r. ⌜ r ≡ asciiIs Class.Upper b ⌝ }
 {
     std::num::wrapping_sub_u8(b, b'A') < 26
 }
 
+// A letter of ASCII.
 pub fn is_letter(b: u8) -> bool
     ensures { λ r. ⌜ r ≡ asciiLetter b ⌝ }
 {
     std::num::wrapping_sub_u8(b | 0x20, b'a') < 26
 }
 
+// An ASCII character of the class Number.
 pub fn is_digit(b: u8) -> bool
     ensures { λ r. ⌜ r ≡ asciiIs Class.Number b ⌝ }
 {
     std::num::wrapping_sub_u8(b, b'0') < 10
 }
 
+// An ASCII character of the class Whitespace.
 pub fn is_ascii_ws(b: u8) -> bool
     ensures { λ r. ⌜ r ≡ asciiIs Class.Whitespace b ⌝ }
 {
