@@ -170,7 +170,7 @@ fn is_scalar(c: u32) -> bool
     within(0xe000, c, 0x10ffff)
 }
 
-// Is this byte a character of ASCII, and of the class Upper? A byte above 7F is none; so too below.
+// Is this byte an ASCII character of the class Upper? None above 7F is; so for the tests below.
 pub fn is_upper_ascii(b: u8) -> bool
     ensures { λ r. ⌜ r ≡ asciiIs Class.Upper b ⌝ }
 {

@@ -20,7 +20,7 @@ showItem (kind Caseless) = "\\p{Lm}\\p{Lo}"
 showItem (kind Mark) = "\\p{M}"
 showItem (kind Number) = "\\p{N}"
 showItem (kind Whitespace) = "\\s"
-showItem (kind Other) = "(fails notation)"
+showItem (kind Other) = "(no notation)"
 showItem letter = "\\p{L}"
 showItem nonWhite = "\\S"
 

@@ -18,7 +18,7 @@ ghost use Rattle.scanners.specs.Scan.{Known, Advanced};
 ghost use Rattle.pretokenize.specs.Entry.{number, place, verdict, said, filled, tokenPlace, stepEnd, moved};
 
 // The longest text that is taken, in bytes.
-pub const LIMIT: usize = 1048576;
+const LIMIT: usize = 1048576;
 
 // Why a call is refused, with the place where it depends on the call.
 pub enum Refusal {
