@@ -12,3 +12,4 @@ pub mod Digits
 pub mod Spans
 pub mod Start
 pub mod Choice
+pub mod Unique
