@@ -1,8 +1,9 @@
 // The classes of characters: the table, the class of a number, and the tests of an ASCII byte.
 mod ranges;
 
+use utf8::within;
 ghost use mathlib.Core.Path.{_≡_};
-ghost use Rattle.utf8.specs.Utf8.{scalar, within as between};
+ghost use Rattle.utf8.specs.Utf8.{scalar};
 ghost use Rattle.classes.specs.declared.Class.{Class as ClassOf};
 ghost use Rattle.classes.specs.Classes.{classIn, whiteSpace, rank, classSaid, asciiIs, asciiLetter, answer};
 ghost use Rattle.classes.specs.Rows.{named, rangesOf, orElse, classAt, table};
@@ -30,7 +31,7 @@ pub enum Asked {
     NoScalar,
 }
 
-// What the class look-up goes by. An entry point makes it once and lends it down.
+// What the class look-up goes by. An entry point makes it at most once and lends it down.
 pub type Table = [u32; 6924];
 
 // The eleven ranges of White_Space, in rows as the table has.
@@ -105,12 +106,6 @@ pub fn rank_of(k: Class) -> u8
         Class::Whitespace => 5,
         Class::Other => 6,
     }
-}
-
-fn within(from: u32, c: u32, to: u32) -> bool
-    ensures { λ r. ⌜ r ≡ between from c to ⌝ }
-{
-    if from <= c { c <= to } else { false }
 }
 
 // The first of some rows that holds c, from the front.

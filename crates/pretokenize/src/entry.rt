@@ -3,10 +3,11 @@ use classes::table;
 use pattern::Options;
 use scanners::Advance;
 use scanners::advance_pos;
-use scanners::byte_at;
 use utf8::Checked;
+use utf8::byte_at;
 use utf8::check;
 use utf8::largest;
+use utf8::within;
 ghost use mathlib.Core.Path.{_≡_};
 ghost use Prim.Native.Nat.{_+_, _-_, _<_, _≤_};
 ghost use lib.Dec.{eqb};
@@ -92,7 +93,7 @@ pub struct Step {
 fn continues(b: u8) -> bool
     ensures { λ r. ⌜ r ≡ within 0x80 b 0xbf ⌝ }
 {
-    0x80 <= b && b <= 0xbf
+    within(0x80, b as u32, 0xbf)
 }
 
 // The place of the first byte of the character that a place of a checked text is in.

@@ -11,6 +11,7 @@ use classes::is_letter;
 use classes::is_upper_ascii;
 use classes::rank_of;
 use pattern::Options;
+use utf8::byte_at;
 ghost use mathlib.Core.Path.{_≡_};
 ghost use Prim.Native.Nat.{_+_, _/_, _%_, _^_, _≤_, _<_, min};
 ghost use lib.ListN.{length, getD};
@@ -247,13 +248,6 @@ fn kind_end(t: &[u32], bytes: &[u8], pos: usize, kind: Kind) -> Ended
     }
 }
 
-// A byte past the end counts as 0, which no row has.
-pub fn byte_at(bytes: &[u8], pos: usize) -> u8
-    ensures { λ r. ⌜ r ≡ getD (now (bytes .entry)) pos 0 ⌝ }
-{
-    if pos < bytes.len() { bytes[pos] } else { 0 }
-}
-
 fn to_ascii_lowercase(b: u8) -> u8
     ensures { λ r. ⌜ r ≡ lowered b ⌝ }
 {
@@ -288,7 +282,8 @@ fn row_fits(n: u8, x: u8, y: u8, b: u8, d: u8) -> bool
     false
 }
 
-// The end of the letter token that ends at a place, with its suffix where contractions are on.
+// The end of the letter token that ends at a place, with its suffix where contractions are on. A byte past the end is 0, which no
+// row has.
 fn try_suffix(bytes: &[u8], end: usize, contractions: bool) -> usize
     requires { ⌜ Whole (now bytes) end ⌝ }
     ensures { λ r. ⌜ r ≡ end + suffixWidth contractions (charsAt (now (bytes .entry)) end) ⌝ }

@@ -1,7 +1,8 @@
 // UTF-8: one character at a place of some bytes, and the place of the first ill-formed sequence of a text.
 ghost use mathlib.Core.Path.{_≡_};
 ghost use lib.ListN.{getD};
-ghost use Rattle.utf8.specs.LargestByte.{larger, largest};
+ghost use Prim.Native.Nat.{max};
+ghost use Rattle.utf8.specs.LargestByte.{largest};
 ghost use Rattle.utf8.specs.Utf8.{leadOf, decodeAt, checked, within as between, from2, from3, from4};
 
 // What a lead byte says: the length of its sequence, and the range of its second byte where there is more than one.
@@ -44,14 +45,21 @@ fn lead_of(b: u32) -> Lead
     }
 }
 
-// The byte at i, or 0 past the end.
-fn byte(s: &[u8], i: usize) -> u32
-    ensures { λ r. ⌜ r ≡ getD (now (s .entry)) i 0 ⌝ }
+// The byte at a place, 0 past the end.
+pub fn byte_at(text: &[u8], at: usize) -> u8
+    ensures { λ r. ⌜ r ≡ getD (now (text .entry)) at 0 ⌝ }
 {
-    if i < s.len() { s[i] as u32 } else { 0 }
+    if at < text.len() { text[at] } else { 0 }
 }
 
-fn within(a: u32, b: u32, z: u32) -> bool
+fn byte(text: &[u8], at: usize) -> u32
+    ensures { λ r. ⌜ r ≡ getD (now (text .entry)) at 0 ⌝ }
+{
+    byte_at(text, at) as u32
+}
+
+// Is b from a to z?
+pub fn within(a: u32, b: u32, z: u32) -> bool
     ensures { λ r. ⌜ r ≡ between a b z ⌝ }
 {
     if a <= b { b <= z } else { false }
@@ -130,7 +138,7 @@ pub fn largest(text: &[u8]) -> u8
 }
 
 fn larger(a: u8, b: u8) -> u8
-    ensures { λ r. ⌜ r ≡ larger a b ⌝ }
+    ensures { λ r. ⌜ r ≡ max a b ⌝ }
 {
     if a < b { b } else { a }
 }

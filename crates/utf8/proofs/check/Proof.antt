@@ -11,7 +11,7 @@ use Rattle.utf8.proofs.check.Tie as tie
 returns : tie.Need-returns
 returns c =
     let s = c .before .before .before .args .text .now in
-    checked-valid s (ascii-valid s (λ k h. omega (arith, c .before .largest .ensures, largest-bounds 0 s k)))
+    checked-valid s (ascii-valid s (λ k h. omega (arith, c .before .largest .ensures, largest-bounds s k)))
 
 pub check-spec : {M : Type 1} → statement M
 check-spec = tie.close (tie.spec (λ c κs. search needs) returns (λ c κs. search needs) (λ c. search needs))

@@ -10,7 +10,7 @@ fill-from-requires : tie.Need-fill-from-requires
 fill-from-requires c κs =
     let b = c .before .before .before in
     let a = b .before .before .before in
-    ((λ k h. absurd (omega (arith, b .largest .ensures, largest-bounds 0 (a .args .text .now) k))), a .pre)
+    ((λ k h. absurd (omega (arith, b .largest .ensures, largest-bounds (a .args .text .now) k))), a .pre)
 
 pub fill-checked-spec : {M : Type 1} → statement M
 fill-checked-spec =
