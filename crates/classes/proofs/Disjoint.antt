@@ -43,18 +43,18 @@ unfolding white_space ranges
 white_apart = refl
 
 -- THE LAW. What follows a range begins past it
-least : (n : ℕ) {r : Range} {rs : List Range} → ascends n rs ≡ true → In r rs → n ≤ r.from
-least n {r} a here = let t = passed (pick (leb n r.from) (leb r.from r.to) false) a in leb-true n r.from (both (leb n r.from) _ t.0).0
+least : {r : Range} (n : ℕ) {rs : List Range} → ascends n rs ≡ true → In r rs → n ≤ r.from
+least {r} n a here = let t = passed (pick (leb n r.from) (leb r.from r.to) false) a in leb-true n r.from (both (leb n r.from) _ t.0).0
 least n a (there {s} i) =
     let t = passed (pick (leb n s.from) (leb s.from s.to) false) a in
     let b = both (leb n s.from) _ t.0 in
     omega (arith, least (suc s.to) t.1 i, leb-true n s.from b.0, leb-true s.from s.to b.1)
 
 -- so the first range that holds c is the only one
-class_in_lem : (n c : ℕ) (k : Class) {r : Range} {rs : List Range} → ascends n rs ≡ true → In r rs → Holds r c → class_in rs c k ≡ r.is
+class_in_lem : {r : Range} (n c : ℕ) (k : Class) {rs : List Range} → ascends n rs ≡ true → In r rs → Holds r c → class_in rs c k ≡ r.is
 unfolding class_in
 class_in_lem n c k a here h = rw (h, class_in)
-class_in_lem n c k {r} a (there {s} {rs} i) h =
+class_in_lem {r} n c k a (there {s} {rs} i) h =
     let t = passed (pick (leb n s.from) (leb s.from s.to) false) a in
     rw (above s.from c s.to (omega (arith, least (suc s.to) t.1 i, range_true r.from c r.to h)), class_in) (class_in_lem (suc s.to) c k t.1 i h)
 

@@ -1,10 +1,12 @@
 // UTF-8: one character at a place of some bytes, and the place of the first ill-formed sequence of a text.
+#![tactic(auto)]
+
 ghost use Rattle.std.specs.Prelude.{◌≡◌, get_or, max};
 ghost use Rattle.utf8.specs.LargestByte.{largest};
 ghost use Rattle.utf8.specs.Utf8.{lead_of, decode_at, checked, within as between, from2, from3, from4};
 
 // What a lead byte says: the length of its sequence, and the range of its second byte where there is more than one.
-#[derive(Drop)]
+#[derive(Clone, Copy)]
 pub enum Lead {
     None,
     One,
@@ -14,7 +16,7 @@ pub enum Lead {
 }
 
 // What stands at a place of some bytes: a character, by its scalar value and its width; an ill-formed sequence; nothing.
-#[derive(Drop)]
+#[derive(Clone, Copy)]
 pub enum Decoded {
     Char(u32, usize),
     Bad,
@@ -22,7 +24,7 @@ pub enum Decoded {
 }
 
 // Whether a text is valid, or the place of its first ill-formed sequence.
-#[derive(Drop)]
+#[derive(Clone, Copy)]
 pub enum Checked {
     Valid,
     BadAt(usize),
