@@ -1,6 +1,6 @@
 -- Where a text ends in CR or LF and what follows is fresh, its first token is the one that it has alone.
 use mathlib.Core.Bool.{Bool, true, false, cond, ◌&&◌ as and, ◌||◌ as or, not}
-use mathlib.Core.Path.{◌≡◌, refl, ap}
+use mathlib.Core.Path.{◌≡◌, refl, sym, ap}
 use mathlib.Core.List.{List, [], ◌∷◌, ◌++◌}
 use mathlib.Core.Option.{Option, none, some, get_or}
 use Prim.Native.Nat.{ℕ, zero, suc, ◌<◌}
@@ -9,7 +9,7 @@ use Prim.Native.Char.{code}
 use Prim.Native.String.{String, [] as []ˢ, ◌∷◌ as ◌∷ˢ◌}
 use lib.ListN.{drop, take, length, length-append}
 use lib.Seq.{drop-append-le}
-use Rattle.utf8.proofs.Tests.{by_cond, not_true, and_both}
+use Rattle.utf8.proofs.Tests.{by_cond, not_true, and_both, never}
 use Rattle.classes.specs.Classes.{class_of}
 use Rattle.classes.specs.declared.Class.{Class}
 use Rattle.classes.specs.declared.Class.TheVariants.{Upper, Lower, Caseless, Mark, Number, Whitespace, Other}
@@ -149,7 +149,12 @@ punct_closed o ys {xs} t k = rw (run_closed punct punct_avoids ys k)
 -- white space: the last CR or LF of the run is the same, since the run of white space after xs has none
 white_closed : (ys : List ℕ) {xs : List ℕ} → last_in white newline ys ≡ none → Closed xs → last_in white newline (xs ++ ys) ≡ last_in white newline xs
 unfolding last_in holds
-white_closed ys n (here {c} h) = rw (newline_white c h, h, n)
+white_closed ys n (here {c} h) = rw n (by (white c) (newline c) (newline_is_white c h) h)
+  where
+    by : (b d : Bool) → b ≡ true → d ≡ true → last_step b d none (run newline ys) ≡ last_step b d none (run newline [])
+    by true true p q = refl
+    by true false p q = refl
+    by false d p q = never (sym p)
 white_closed ys n (there {c} {cs} k) = rw (white_closed ys n k, run_append newline cs ys (last_none white newline ys n))
 
 white_run : (ys : List ℕ) {xs : List ℕ} → Closed xs → last_in white newline xs ≡ none → (run white (xs ++ ys) ≡ run white xs) × (run white xs < length xs)

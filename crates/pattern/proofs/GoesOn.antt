@@ -13,7 +13,6 @@ use Rattle.pattern.specs.declared.Options.{Options}
 use Rattle.pattern.specs.Answers.{Found, passes, fails, checks, token_end, next_end, ends_at, written, last_or, fill, fill_list}
 use Rattle.pattern.proofs.Accepted.{accepted, accepts, on}
 use Rattle.pattern.proofs.Walk.{token_is_whole, ends_some, ends_none}
-use Rattle.pattern.proofs.Edges.{next_at_end}
 
 -- THE NEXT STEP, from an accepted start before the end of the text
 pub goes_on : (o : Options) (s : List ℕ) (at : ℕ) → checks o s at ≡ passes → at < length s

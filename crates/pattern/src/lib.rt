@@ -1,10 +1,12 @@
 // The options that the pattern is adapted to.
+#![tactic(auto)]
+
 ghost use Rattle.std.specs.Prelude.{◌≡◌};
 ghost use Rattle.pattern.specs.Pattern.{o200k};
 
 // Contractions yes or no; digit mode 0 (one), 1 (three, from the left), 2 (three, from the right); slash in the tail yes or no.
 // Any other digit mode is refused wherever the options are used.
-#[derive(Drop)]
+#[derive(Clone, Copy)]
 pub struct Options {
     pub contractions: bool,
     pub digits: u8,
