@@ -1,7 +1,7 @@
 -- The steps of a walker, one after another, give what one walk gives.
 use Prim.Native.Nat.{ℕ, zero, suc}
 use mathlib.Core.List.{List, [], ◌∷◌}
-use mathlib.Core.Path.{◌≡◌, refl, sym, ◌∙◌, ap}
+use mathlib.Core.Path.{◌≡◌, refl, ◌∙◌, ap}
 use Rattle.classes.specs.Classes.{Said, gives, says}
 use Rattle.pattern.specs.Answers.{next_end, written, last_or, fill}
 use Rattle.pattern.proofs.GoesOn.{and_then, next_ends, next_ends_are_written}

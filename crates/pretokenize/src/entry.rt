@@ -15,7 +15,7 @@ use utf8::{Checked, byte_at, check, largest, within};
 const LIMIT: usize = 1048576;
 
 // Why a call is refused, with the place where it depends on the call.
-#[derive(Drop)]
+#[derive(Clone, Copy)]
 pub enum Refusal {
     Mode,
     Long,
@@ -53,14 +53,14 @@ impl Refusal {
 }
 
 // That a call passes, or why it is refused.
-#[derive(Drop)]
+#[derive(Clone, Copy)]
 pub enum Verdict {
     Passed,
     Refused(Refusal),
 }
 
 // Where a token ends; that the text has ended, with its length; or why the call is refused.
-#[derive(Drop)]
+#[derive(Clone, Copy)]
 pub enum NextEnd {
     At(usize),
     End(usize),
@@ -68,21 +68,21 @@ pub enum NextEnd {
 }
 
 // How many ends were written, and where the next token begins; or why the call is refused.
-#[derive(Drop)]
+#[derive(Clone, Copy)]
 pub enum Filled {
     Ends(usize, usize),
     Refused(Refusal),
 }
 
 // A walk of a text: its options, and where its next token begins.
-#[derive(Drop)]
+#[derive(Clone, Copy)]
 pub struct Walker {
     pub options: Options,
     pub at: usize,
 }
 
 // What a step of a walk answers, and the walker after it.
-#[derive(Drop)]
+#[derive(Clone, Copy)]
 pub struct Step {
     pub answer: NextEnd,
     pub walker: Walker,

@@ -20,14 +20,14 @@ use pattern::Options;
 use utf8::byte_at;
 
 // A character outside ASCII, by its scalar value and its width.
-#[derive(Drop)]
+#[derive(Clone, Copy)]
 struct CodePoint {
     cp: u32,
     len: usize,
 }
 
 // The same by its scalar value, its end and its class.
-#[derive(Drop)]
+#[derive(Clone, Copy)]
 struct Seen {
     cp: u32,
     end: usize,
@@ -35,7 +35,7 @@ struct Seen {
 }
 
 // What stands at a place: nothing; an ASCII byte; a character outside ASCII, with its scalar value, its end and its class.
-#[derive(Drop)]
+#[derive(Clone, Copy)]
 enum Peek {
     Nothing,
     Ascii(u8),
@@ -43,7 +43,7 @@ enum Peek {
 }
 
 // The characters of which runs are passed over, other than letters.
-#[derive(Drop)]
+#[derive(Clone, Copy)]
 enum Kind {
     Number,
     White,
@@ -51,7 +51,7 @@ enum Kind {
 }
 
 // Where the character at a place ends, if it is of the kind that is asked for.
-#[derive(Drop)]
+#[derive(Clone, Copy)]
 enum Ended {
     At(usize),
     No,
@@ -59,21 +59,21 @@ enum Ended {
 
 // The state of a letter run. `U`: no lower-case letter yet; `last_cl_end` is the end of the last caseless letter or mark, 0 if
 // there was none. `L`: past a lower-case letter, where an upper-case one ends the token.
-#[derive(Drop)]
+#[derive(Clone, Copy)]
 enum CaseState {
     U { last_cl_end: usize },
     L,
 }
 
 // A letter run past its next character, or before one that ends it.
-#[derive(Drop)]
+#[derive(Clone, Copy)]
 enum Turn {
     Go(usize, CaseState),
     Stop,
 }
 
 // Which scanner a token is for, from where, and in which state. `One` is a space that stands alone.
-#[derive(Drop)]
+#[derive(Clone, Copy)]
 enum Start {
     Letters(usize, CaseState),
     Punct(usize),
@@ -83,7 +83,7 @@ enum Start {
 }
 
 // A token's length, and how many whole groups of three are left of its run of digits in digit mode 2.
-#[derive(Drop)]
+#[derive(Clone, Copy)]
 pub struct Advance {
     pub len: usize,
     pub groups: usize,

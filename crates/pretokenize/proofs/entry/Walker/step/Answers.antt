@@ -1,0 +1,6 @@
+use mathlib.Core.Path.{◌∙◌, ap}
+use Rattle.pretokenize.specs.Entry.{moved_by}
+use Rattle.pretokenize.proofs.entry.Walker.step.Goals as goal
+
+pub returns : goal.returns
+returns c = let e = c.next_end-answer.ensures in (e, c.moved_by-walker.ensures ∙ ap (moved_by c.args.self) e)

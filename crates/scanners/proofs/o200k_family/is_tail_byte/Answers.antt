@@ -1,0 +1,18 @@
+use mathlib.Core.Bool.{Bool, ◌||◌ as or, ◌&&◌ as and}
+use mathlib.Core.Path.{◌≡◌, sym, ap, ◌∙◌}
+use Prim.Native.Nat.{ℕ}
+use Rattle.pattern.proofs.Step.{is, newline, tail}
+use Rattle.pattern.proofs.Sets.{tail_is}
+use Rattle.scanners.proofs.o200k_family.is_tail_byte.Goals as goal
+
+by : (s : Bool) (b : ℕ) {n t : Bool} → newline b ≡ n → s ≡ t → or n (and t (is 47 b)) ≡ tail s b
+by s b {n} e f = sym (tail_is s b ∙ ap (λ n. or n (and s (is 47 b))) e ∙ ap (λ s. or n (and s (is 47 b))) f)
+
+pub returns-then-is_newline : goal.returns-then-is_newline
+returns-then-is_newline c = let a = c.args in sym (tail_is a.slash a.b ∙ ap (λ n. or n (and a.slash (is 47 a.b))) (sym c.is_newline.ensures ∙ c.if-is_newline.true))
+
+pub returns-then-slash : goal.returns-then-slash
+returns-then-slash c = let a = c.args in by a.slash a.b (sym c.is_newline.ensures ∙ c.if-is_newline.false) c.if-slash.true
+
+pub returns-else-slash : goal.returns-else-slash
+returns-else-slash c = let a = c.args in by a.slash a.b (sym c.is_newline.ensures ∙ c.if-is_newline.false) c.if-slash.false
