@@ -1,4 +1,6 @@
 // The entry points for other languages: numbers and slices alone. Each answers a refusal's number, 0 where there is none.
+#![tactic(auto)]
+
 ghost use Rattle.std.specs.Prelude.{◌≡◌, length};
 ghost use Rattle.classes.specs.Classes.{class_said};
 ghost use Rattle.pattern.specs.Answers.{next_end, fill, fill_list};
