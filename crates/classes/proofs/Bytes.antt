@@ -1,7 +1,7 @@
 -- What the classes say of a byte: tests of ranges, compared with the definition at each of the 256 bytes by computation. Only the
 -- ranges that begin in ASCII are gone through, since the others are clear of it.
-use Rattle.std.proofs.Common.{◌≡◌, ℕ, zero, suc, ◌+◌, ◌-◌, ◌%◌, ◌^◌, ◌<◌, ◌≤◌, Bool, true, false, ◌||◌, eqb, ltb, leb, List, [], ◌∷◌, take, drop, sym, refl, ap, ◌∙◌, arith, le-ltb, lt-ltb, leb-true}
-use lib.Bits.{bit_or}
+use Rattle.std.proofs.Common.{◌≡◌, ◌≢◌, ℕ, zero, suc, ◌+◌, ◌-◌, ◌%◌, ◌^◌, ◌<◌, ◌≤◌, Bool, true, false, ◌||◌, eqb, ltb, leb, List, [], ◌∷◌, take, drop, sym, refl, ap, ◌∙◌, arith, le-ltb, lt-ltb, leb-true, eq-eqb, ne_eqb}
+use lib.Bits.{bit_or, or_lt}
 use Rattle.utf8.specs.Utf8.{pick, within}
 use Rattle.utf8.proofs.Tests.{by_bool, by_le, passed, in_range, below, above}
 use Rattle.classes.specs.Range.{Range, range}
@@ -92,3 +92,21 @@ wrapped a n b r hr hb hn ha e =
     by_le n r
     (λ h. le-ltb r n h ∙ sym (by_le 256 (r + a) (λ k. below a b (a + n - 1) (omega arith)) (λ k. above a b (a + n - 1) (omega arith))))
     (λ h. lt-ltb r n h ∙ sym (in_range a b (a + n - 1) (omega arith) (omega arith)))
+
+-- what the tests of a byte b say, where r is its wrapped difference from the first value of a range
+module _ (b r : ℕ) (hr : r < 256) (hb : b < 256) where
+  pub upper_test : (r + 65) % 2 ^ 8 ≡ b → ltb r 26 ≡ ascii_is Upper b
+  upper_test e = wrapped 65 26 b r hr hb (omega arith) (omega arith) e ∙ upper_range b hb
+
+  pub digit_test : (r + 48) % 2 ^ 8 ≡ b → ltb r 10 ≡ ascii_is Number b
+  digit_test e = wrapped 48 10 b r hr hb (omega arith) (omega arith) e ∙ digit_range b hb
+
+  pub letter_test : (r + 97) % 2 ^ 8 ≡ bit_or b 32 → ltb r 26 ≡ ascii_letter b
+  letter_test e = wrapped 97 26 (bit_or b 32) r hr (or_lt 8 b 32 hb (omega arith)) (omega arith) (omega arith) e ∙ letter_range b hb
+
+  pub white_test : b ≢ 32 → (r + 9) % 2 ^ 8 ≡ b → ltb r 5 ≡ ascii_is Whitespace b
+  white_test n e = wrapped 9 5 b r hr hb (omega arith) (omega arith) e ∙ rw (ne_eqb b 32 n) at (white_range b hb)
+
+-- a byte that is white space, tested alone
+pub blank_test : (k b : ℕ) → k < 256 → is_blank k ≡ true → b ≡ k → eqb b k ≡ ascii_is Whitespace b
+blank_test k b hk t e = rw e (eq-eqb k k refl ∙ sym t ∙ white_range k hk)

@@ -5,13 +5,13 @@ use Rattle.classes.specs.declared.Class.{Class}
 use Rattle.classes.specs.declared.Asked.{Asked}
 use Rattle.classes.specs.declared.Asked.TheVariants.{Is, NoScalar}
 use Rattle.classes.proofs.table.Reads as table
-use Rattle.classes.proofs.rank_of.Reads as rank-of
-use Rattle.classes.proofs.class_at.Reads as class-at
+use Rattle.classes.proofs.rank_of.Reads as rank_of
+use Rattle.classes.proofs.class_at.Reads as class_at
 use Rattle.classes.proofs.class_of.Reads as class_of
-use Rattle.classes.proofs.is_upper_ascii.Reads as is-upper-ascii
-use Rattle.classes.proofs.is_letter.Reads as is-letter
+use Rattle.classes.proofs.is_upper_ascii.Reads as is_upper_ascii
+use Rattle.classes.proofs.is_letter.Reads as is_letter
 use Rattle.classes.proofs.is_digit.Reads as is_digit
-use Rattle.classes.proofs.is_ascii_ws.Reads as is-ascii-ws
+use Rattle.classes.proofs.is_ascii_ws.Reads as is_ascii_ws
 
 -- an answer that can be read back from what it says is fixed by it
 pub one : {A B : Type 0} (say : A → B) (back : B → A) → ((x : A) → back (say x) ≡ x) → {x y : A} {b : B} → say x ≡ b → say y ≡ b → x ≡ y
@@ -29,23 +29,23 @@ back_answer NoScalar = refl
 pub class_of_one : (κs : _) (a : _) (e e' : _) {x y : Asked} → class_of.Post κs a x e → class_of.Post κs a y e' → x ≡ y
 class_of_one κs a e e' p q = one answer back back_answer p q
 
-pub class_at_one : (κs : _) (a : _) (e e' : _) {x y : Class} → class-at.Post κs a x e → class-at.Post κs a y e' → x ≡ y
+pub class_at_one : (κs : _) (a : _) (e e' : _) {x y : Class} → class_at.Post κs a x e → class_at.Post κs a y e' → x ≡ y
 class_at_one κs a e e' p q = p ∙ sym q
 
 pub table_one : (κs : _) (a : _) (e e' : _) {x y : List ℕ} → table.Post κs a x e → table.Post κs a y e' → x ≡ y
 table_one κs a e e' p q = p ∙ sym q
 
-pub rank_one : (κs : _) (a : _) (e e' : _) {x y : ℕ} → rank-of.Post κs a x e → rank-of.Post κs a y e' → x ≡ y
+pub rank_one : (κs : _) (a : _) (e e' : _) {x y : ℕ} → rank_of.Post κs a x e → rank_of.Post κs a y e' → x ≡ y
 rank_one κs a e e' p q = p ∙ sym q
 
-pub upper_one : (κs : _) (a : _) (e e' : _) {x y : Bool} → is-upper-ascii.Post κs a x e → is-upper-ascii.Post κs a y e' → x ≡ y
+pub upper_one : (κs : _) (a : _) (e e' : _) {x y : Bool} → is_upper_ascii.Post κs a x e → is_upper_ascii.Post κs a y e' → x ≡ y
 upper_one κs a e e' p q = p ∙ sym q
 
-pub letter_one : (κs : _) (a : _) (e e' : _) {x y : Bool} → is-letter.Post κs a x e → is-letter.Post κs a y e' → x ≡ y
+pub letter_one : (κs : _) (a : _) (e e' : _) {x y : Bool} → is_letter.Post κs a x e → is_letter.Post κs a y e' → x ≡ y
 letter_one κs a e e' p q = p ∙ sym q
 
 pub digit_one : (κs : _) (a : _) (e e' : _) {x y : Bool} → is_digit.Post κs a x e → is_digit.Post κs a y e' → x ≡ y
 digit_one κs a e e' p q = p ∙ sym q
 
-pub white_one : (κs : _) (a : _) (e e' : _) {x y : Bool} → is-ascii-ws.Post κs a x e → is-ascii-ws.Post κs a y e' → x ≡ y
+pub white_one : (κs : _) (a : _) (e e' : _) {x y : Bool} → is_ascii_ws.Post κs a x e → is_ascii_ws.Post κs a y e' → x ≡ y
 white_one κs a e e' p q = p ∙ sym q

@@ -1,4 +1,6 @@
 // The classes of characters: the table, the class of a number, and the tests of an ASCII byte.
+#![tactic(auto)]
+
 mod ranges;
 
 ghost use Rattle.std.specs.Prelude.{◌≡◌};
@@ -10,7 +12,7 @@ ghost use Rattle.classes.specs.Rows.{named, ranges_of, or_else, class_at, table}
 use utf8::within;
 
 // The seven classes of document 01, in its order.
-#[derive(Drop)]
+#[derive(Clone, Copy)]
 pub enum Class {
     Upper,
     Lower,
@@ -22,14 +24,14 @@ pub enum Class {
 }
 
 // What rows of ranges say of a value: the class of the range that holds it, or that none does.
-#[derive(Drop)]
+#[derive(Clone, Copy)]
 pub enum Listed {
     As(Class),
     Nowhere,
 }
 
 // The class of a number, or that it is no scalar value: refusal 6, place 0.
-#[derive(Drop)]
+#[derive(Clone, Copy)]
 pub enum Asked {
     Is(Class),
     NoScalar,
@@ -139,6 +141,7 @@ fn is_scalar(c: u32) -> bool
 }
 
 // Is this byte an ASCII character of the class Upper? None above 7F is; so for the tests below.
+#[tactic(auto, using(crate::proofs::Bytes::upper_test))]
 pub fn is_upper_ascii(b: u8) -> bool
     ensures { result ≡ ascii_is Class.Upper b }
 {
@@ -146,6 +149,7 @@ pub fn is_upper_ascii(b: u8) -> bool
 }
 
 // A letter of ASCII.
+#[tactic(auto, using(crate::proofs::Bytes::letter_test))]
 pub fn is_letter(b: u8) -> bool
     ensures { result ≡ ascii_letter b }
 {
@@ -153,6 +157,7 @@ pub fn is_letter(b: u8) -> bool
 }
 
 // An ASCII character of the class Number.
+#[tactic(auto, using(crate::proofs::Bytes::digit_test))]
 pub fn is_digit(b: u8) -> bool
     ensures { result ≡ ascii_is Class.Number b }
 {
@@ -160,6 +165,7 @@ pub fn is_digit(b: u8) -> bool
 }
 
 // An ASCII character of the class Whitespace.
+#[tactic(auto, using(crate::proofs::Bytes::white_test, crate::proofs::Bytes::blank_test))]
 pub fn is_ascii_ws(b: u8) -> bool
     ensures { result ≡ ascii_is Class.Whitespace b }
 {
