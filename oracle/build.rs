@@ -10,7 +10,7 @@ fn main() {
     println!("cargo::rerun-if-changed={}", archive.display());
     if !archive.is_file() {
         eprintln!("there is no file {}", archive.display());
-        eprintln!("make it with `rt staticlib njuxaleet`, or name the folder that holds libnjuxaleet.a in NJUXALEET_LIB");
+        eprintln!("make it with tools/library, or name the folder that holds libnjuxaleet.a in NJUXALEET_LIB");
         std::process::exit(1);
     }
     println!("cargo::rustc-link-search=native={}", folder.display());
