@@ -1,3 +1,4 @@
+-- `utf8::check` meets its contract: a text without a byte above 7F is valid.
 use Rattle.std.proofs.Common.{arith}
 use Rattle.utf8.proofs.At.{checked_valid}
 use Rattle.utf8.proofs.LargestByte.{largest_bounds}

@@ -1,3 +1,4 @@
+-- `utf8::check_chars` meets its contract. The loop's invariant: what the text's characters take is the place and what those from there on take.
 use Rattle.std.proofs.Common.{sym, ◌∙◌, ap, arith}
 use Rattle.utf8.specs.Utf8.{chars_at, widths}
 use Rattle.utf8.proofs.At.{at_char, at_bad, at_end, checked_bad, checked_valid}

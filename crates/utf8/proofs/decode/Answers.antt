@@ -1,3 +1,4 @@
+-- `utf8::decode` meets its contract: what the lead byte says is `lead_of`'s, and each arm is `decode_as`'s at it.
 use Rattle.std.proofs.Common.{sym, ◌∙◌}
 use Rattle.utf8.proofs.At.{decode_some, decode_none}
 use Rattle.utf8.proofs.decode.Goals as goal

@@ -1,3 +1,4 @@
+-- `utf8::largest` meets its contract. The loop's invariant: the larger of `most` and the largest byte from `i` on is the text's.
 use Rattle.std.proofs.Common.{◌≡◌, ap, drop, length, arith}
 use Rattle.utf8.specs.LargestByte.{largest}
 use Rattle.utf8.proofs.LargestByte.{largest_step, largest_end}

@@ -1,3 +1,4 @@
+-- `utf8::lead_of` meets its contract: each arm's tests say which row of `lead_of` holds.
 use Rattle.std.proofs.Common.{sym, arith}
 use Rattle.utf8.specs.Utf8.{lead_of}
 use Rattle.utf8.proofs.Table.{lead_00, lead_c2, lead_e1, lead_ee, lead_f1, lead_none, lead_past}

@@ -1,3 +1,4 @@
+-- `pretokenize::entry::char_start` meets its contract. The loop's invariant: the place gone back to is in the same character.
 use mathlib.Core.Path.{◌≡◌, sym, ◌∙◌, ap}
 use native.Mathlib.Omega.{arith}
 use borrow.Author.Tests.{ltb-true, ltb-false}

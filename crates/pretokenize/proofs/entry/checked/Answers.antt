@@ -1,3 +1,4 @@
+-- `pretokenize::entry::checked` meets its contract: each answer is its row's.
 use mathlib.Core.Path.{sym, ◌∙◌, ap}
 use native.Mathlib.Omega.{arith}
 use Rattle.utf8.specs.Utf8.{chars}

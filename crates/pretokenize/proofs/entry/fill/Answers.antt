@@ -1,3 +1,4 @@
+-- `pretokenize::entry::fill` meets its contract: a refusal writes nothing, and past the checks `fill_checked` says.
 use mathlib.Core.Path.{sym, ◌∙◌, ap}
 use Rattle.pretokenize.specs.Entry.{verdict}
 use Rattle.pretokenize.proofs.Filling.{refuses}

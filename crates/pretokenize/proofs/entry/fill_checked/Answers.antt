@@ -1,3 +1,4 @@
+-- `pretokenize::entry::fill_checked` meets its contract: where no byte is above 7F no table is asked for, and any other text is lent it.
 use native.Mathlib.Omega.{arith}
 use Rattle.utf8.proofs.LargestByte.{largest_bounds}
 use Rattle.pretokenize.proofs.entry.fill_checked.Goals as goal

@@ -1,3 +1,5 @@
+-- `pretokenize::entry::fill_from` meets its contract. The loop's invariant: what `Filling` says of the list, the count and the
+-- place, and the groups that are known there.
 use mathlib.Core.Path.{sym, subst}
 use native.Mathlib.Omega.{arith}
 use Rattle.utf8.specs.Utf8.{chars_at}

@@ -1,3 +1,4 @@
+-- `pretokenize::entry::next_end` meets its contract: a fill with room for one end says what next end says.
 use mathlib.Core.Path.{sym, ◌∙◌, ap}
 use Rattle.pretokenize.specs.Entry.{filled}
 use Rattle.pretokenize.proofs.One.{one_ended, one_found, one_refused}

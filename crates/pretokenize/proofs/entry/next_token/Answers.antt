@@ -1,3 +1,4 @@
+-- `pretokenize::entry::next_token` meets its contract: a known group is what digit mode 1 takes.
 use Rattle.pretokenize.proofs.Groups.{next_known}
 use Rattle.pretokenize.proofs.entry.next_token.Goals as goal
 

@@ -1,3 +1,4 @@
+-- `pretokenize::entry::token` meets its contract: the part of the caller's text up to the next end.
 use mathlib.Core.Path.{refl, sym, ◌∙◌, ap}
 use native.Mathlib.Omega.{arith}
 use Rattle.pattern.specs.Answers.{token_bytes}

@@ -1,3 +1,4 @@
+-- `scanners::o200k_family::after_space` meets its contract: by what stands there.
 use mathlib.Core.Path.{refl, ap, ◌∙◌}
 use Rattle.scanners.specs.Start.{space_start}
 use Rattle.scanners.proofs.Stands.{stands_none, stands_ascii}

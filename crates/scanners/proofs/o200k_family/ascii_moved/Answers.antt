@@ -1,3 +1,4 @@
+-- `scanners::o200k_family::ascii_moved` meets its contract: the byte tests tell the class, since ASCII has no caseless letter and no mark.
 use mathlib.Core.Path.{◌≡◌, sym, ap, ◌∙◌}
 use native.Mathlib.Omega.{arith}
 use Rattle.scanners.specs.Scan.{moved}

@@ -1,3 +1,4 @@
+-- `scanners::o200k_family::ascii_start` meets its contract: the byte tests tell the class.
 use mathlib.Core.Path.{sym, ap, ◌∙◌}
 use native.Mathlib.Omega.{arith}
 use borrow.Author.Tests.{eq-eqb, ne_eqb}

@@ -1,3 +1,4 @@
+-- `scanners::o200k_family::case_turn` meets its contract: of an ASCII byte the byte tests tell, of any other character its class.
 use mathlib.Core.Path.{refl, ◌∙◌, subst}
 use Rattle.scanners.specs.Place.{Peeks}
 use Rattle.scanners.proofs.Case.{turned_none, turned_at}

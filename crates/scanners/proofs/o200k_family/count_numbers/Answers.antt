@@ -1,3 +1,4 @@
+-- `scanners::o200k_family::count_numbers` meets its contract: what was counted and the run from there on are the run.
 use mathlib.Core.Path.{sym, ◌∙◌}
 use native.Mathlib.Omega.{arith}
 use Rattle.pattern.proofs.Step.{number}

@@ -1,3 +1,4 @@
+-- `scanners::o200k_family::decode_cp` meets its contract: where a character stands, its lead byte tells which form it has (`Outside`).
 use native.Mathlib.Omega.{arith}
 use Rattle.scanners.proofs.Outside.{outside}
 use Rattle.scanners.proofs.o200k_family.decode_cp.Goals as goal

@@ -1,3 +1,4 @@
+-- `scanners::o200k_family::digit_token_end` meets its contract: by digit mode.
 use mathlib.Core.Path.{◌≡◌, subst, sym}
 use native.Mathlib.Omega.{arith}
 use Rattle.utf8.specs.Utf8.{chars}

@@ -1,3 +1,4 @@
+-- `scanners::o200k_family::is_ascii_kind` meets its contract: the byte tests tell the class.
 use mathlib.Core.Path.{sym, ap, ◌∙◌}
 use native.Mathlib.Omega.{arith}
 use Rattle.classes.specs.declared.Class.TheVariants.{Number, Whitespace}

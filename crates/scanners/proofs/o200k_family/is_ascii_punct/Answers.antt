@@ -1,3 +1,4 @@
+-- `scanners::o200k_family::is_ascii_punct` meets its contract: what is no letter, no digit and no white space.
 use mathlib.Core.Path.{sym, ap, ◌∙◌}
 use native.Mathlib.Omega.{arith}
 use Rattle.classes.specs.Classes.{class_of}

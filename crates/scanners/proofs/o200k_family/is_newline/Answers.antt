@@ -1,3 +1,4 @@
+-- `scanners::o200k_family::is_newline` meets its contract: its tests are the set's.
 use mathlib.Core.Bool.{or-false}
 use mathlib.Core.Path.{sym}
 use lib.Dec.{eqb}

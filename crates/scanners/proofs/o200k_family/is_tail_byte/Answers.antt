@@ -1,3 +1,4 @@
+-- `scanners::o200k_family::is_tail_byte` meets its contract: CR, LF and, with the slash option, slash (`tail_is`).
 use mathlib.Core.Bool.{Bool, ◌||◌ as or, ◌&&◌ as and}
 use mathlib.Core.Path.{◌≡◌, sym, ap, ◌∙◌}
 use Prim.Native.Nat.{ℕ}

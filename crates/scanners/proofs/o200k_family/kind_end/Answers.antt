@@ -1,3 +1,4 @@
+-- `scanners::o200k_family::kind_end` meets its contract: of an ASCII byte the byte test tells, of any other character its class.
 use mathlib.Core.Path.{ap, ◌∙◌, subst}
 use Rattle.scanners.specs.Place.{Peeks}
 use Rattle.scanners.specs.Scan.{is_of, in_kind}

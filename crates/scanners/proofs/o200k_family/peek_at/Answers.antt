@@ -1,3 +1,4 @@
+-- `scanners::o200k_family::peek_at` meets its contract: the end, an ASCII byte, or a character outside ASCII.
 use mathlib.Core.Path.{refl}
 use Rattle.scanners.proofs.Stands.{stands_none, stands_ascii}
 use Rattle.scanners.proofs.o200k_family.peek_at.Goals as goal

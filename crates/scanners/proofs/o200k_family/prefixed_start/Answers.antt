@@ -1,3 +1,4 @@
+-- `scanners::o200k_family::prefixed_start` meets its contract: a letter run, or what the prefix is.
 use mathlib.Core.Path.{◌≡◌, sym, ap, ap₂, ◌∙◌}
 use Rattle.utf8.specs.Utf8.{pick}
 use Rattle.scanners.specs.Start.{or_start, prefixed_start}

@@ -1,3 +1,4 @@
+-- `scanners::o200k_family::right_aligned_digit_end` meets its contract: by whether a second number follows.
 use Rattle.std.proofs.Common.{sym, ◌∙◌}
 use Rattle.scanners.proofs.Digits.{begun, right_one}
 use Rattle.scanners.proofs.o200k_family.right_aligned_digit_end.Goals as goal

@@ -1,3 +1,4 @@
+-- `scanners::o200k_family::right_past_two` meets its contract: by whether a third number follows.
 use mathlib.Core.Path.{sym, ap, ◌∙◌}
 use Prim.Native.Nat.{◌+◌, ◌/◌, ◌%◌}
 use native.Mathlib.Omega.{arith}

@@ -1,3 +1,4 @@
+-- `scanners::o200k_family::scan_case_run` meets its contract: the run from `p` on in the state `st` ends where the whole run does.
 use mathlib.Core.Path.{refl, sym, ◌∙◌}
 use native.Mathlib.Omega.{arith}
 use Rattle.scanners.proofs.Case.{case_goes, case_stops}

@@ -1,3 +1,4 @@
+-- `scanners::o200k_family::scan_numbers_max3` meets its contract: by whether a number follows, and another.
 use mathlib.Core.Path.{sym, ◌∙◌}
 use Rattle.pattern.proofs.Step.{number}
 use Rattle.scanners.proofs.Ended.{goes}

@@ -1,3 +1,4 @@
+-- `scanners::o200k_family::scan_punct_from` meets its contract: the run is what was passed over and the run from there on.
 use mathlib.Core.Path.{refl, sym, ◌∙◌}
 use native.Mathlib.Omega.{arith}
 use Rattle.pattern.proofs.Step.{punct}

@@ -1,3 +1,4 @@
+-- `scanners::o200k_family::scan_tail` meets its contract: the tail is a set of ASCII characters, so its bytes are its characters.
 use mathlib.Core.Path.{refl, sym, ◌∙◌}
 use native.Mathlib.Omega.{arith}
 use Rattle.pattern.proofs.Step.{tail}

@@ -1,3 +1,4 @@
+-- `scanners::o200k_family::start_of` meets its contract: by what stands in front.
 use mathlib.Core.Path.{◌∙◌, subst}
 use Rattle.utf8.specs.Utf8.{chars_at}
 use Rattle.scanners.specs.Place.{Peeks}

@@ -1,3 +1,4 @@
+-- `scanners::o200k_family::suffix_row` meets its contract: the rows from `i` on say what all of them say.
 use mathlib.Core.Path.{◌≡◌, refl, sym, ◌∙◌}
 use native.Mathlib.Omega.{arith}
 use Rattle.scanners.specs.Suffix.{first_row, suffix_rows}

@@ -1,3 +1,4 @@
+-- `scanners::o200k_family::to_ascii_lowercase` meets its contract: an upper-case letter of ASCII is A to Z.
 use mathlib.Core.Path.{sym, ◌∙◌}
 use native.Mathlib.Omega.{arith}
 use Rattle.utf8.proofs.Tests.{range_true}

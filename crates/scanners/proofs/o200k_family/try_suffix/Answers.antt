@@ -1,3 +1,4 @@
+-- `scanners::o200k_family::try_suffix` meets its contract: with contractions on and an apostrophe in front the rows say what the table says (`suffix_fits`).
 use mathlib.Core.Bool.{not}
 use mathlib.Core.Path.{◌≡◌, sym, ap, ap₂, ◌∙◌}
 use native.Mathlib.Omega.{arith}

@@ -1,3 +1,4 @@
+-- `scanners::o200k_family::wide_at` meets its contract: what the decoder and the table say.
 use mathlib.Core.Path.{ap, ◌∙◌}
 use native.Mathlib.Omega.{arith}
 use Rattle.classes.specs.Rows.{class_at}

@@ -1,3 +1,4 @@
+-- `scanners::o200k_family::wide_start` meets its contract: its class tells.
 use mathlib.Core.Path.{sym, ap, ap₂, ◌∙◌}
 use Rattle.utf8.specs.Utf8.{chars_at, width}
 use Rattle.classes.specs.Classes.{class_of}

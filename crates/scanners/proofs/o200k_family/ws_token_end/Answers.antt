@@ -1,3 +1,4 @@
+-- `scanners::o200k_family::ws_token_end` meets its contract: the scan from `p` on with what is known of the run so far ends where the whole scan does.
 use mathlib.Core.Path.{refl, sym, ap, ◌∙◌}
 use native.Mathlib.Omega.{arith}
 use Rattle.utf8.specs.Utf8.{pick, chars_at}
