@@ -1,9 +1,13 @@
 // Compares the class of every value with a list that tools/class_runs makes from the official files by another way than the table.
 // It writes the count of each class, or the first value that differs.
+#![tactic(auto)]
+
 ghost use Rattle.std.specs.Prelude.{◌+◌, ◌≤◌, ◌<◌, length};
+ghost use Rattle.std.specs.Io.{ReadsAtMost};
 
 use classes::{Asked, Table};
-use libc::STDOUT_FILENO;
+use std::io;
+use std::io::Read;
 
 // Past the last value.
 const END: u32 = 0x110000;
@@ -12,7 +16,7 @@ const END: u32 = 0x110000;
 const REFUSED: usize = 7;
 
 // A run of the list: the rank of its class, and the value after its last. A run without a value is a damaged line.
-#[derive(Drop)]
+#[derive(Clone, Copy)]
 struct Run {
     rank: usize,
     to: u32,
@@ -112,50 +116,47 @@ fn first_other(t: &Table, from: u32, to: u32, rank: usize) -> u32 {
     to
 }
 
-fn damaged() {
-    io::write_all(STDOUT_FILENO, b"the list is damaged\n");
+fn damaged(rt: &impl Print) -> io::Result<()> {
+    rt.write_all(b"the list is damaged\n")
 }
 
-fn differs(c: u32) {
-    io::write_all(STDOUT_FILENO, b"differs at ");
-    io::print_hex(STDOUT_FILENO, c as u64, 4);
-    io::write_all(STDOUT_FILENO, b"\n");
+fn differs(rt: &impl Print, c: u32) -> io::Result<()> {
+    println!(rt; "differs at {c:04x}")
 }
 
 // Whether a number past the last value is refused.
-fn refused(c: u32) -> bool {
+fn refused(rt: &impl Print, c: u32) -> io::Result<bool> {
     if asked_rank(c) == REFUSED {
-        return true;
+        return Ok(true);
     }
-    differs(c);
-    false
+    differs(rt, c)?;
+    Ok(false)
 }
 
-fn past_the_end() -> bool {
-    refused(0x110000) && refused(0x110001) && refused(0xffffffff)
+fn past_the_end(rt: &impl Print) -> io::Result<bool> {
+    Ok(refused(rt, 0x110000)? && refused(rt, 0x110001)? && refused(rt, 0xffffffff)?)
 }
 
-fn line(name: &[u8], n: u64) {
-    io::write_all(STDOUT_FILENO, name);
-    io::print_decimal(STDOUT_FILENO, n);
-    io::write_all(STDOUT_FILENO, b"\n");
+fn line(rt: &impl Print, name: &[u8], n: u64) -> io::Result<()> {
+    rt.write_all(name)?;
+    println!(rt; "{n}")
 }
 
 // The last count is that of what was refused.
-fn report(counts: [u64; 8], compared: u64) {
-    line(b"Upper ", counts[0]);
-    line(b"Lower ", counts[1]);
-    line(b"Caseless ", counts[2]);
-    line(b"Mark ", counts[3]);
-    line(b"Number ", counts[4]);
-    line(b"Whitespace ", counts[5]);
-    line(b"Other ", counts[6]);
-    line(b"refused ", counts[7]);
-    line(b"compared ", compared);
+fn report(rt: &impl Print, counts: [u64; 8], compared: u64) -> io::Result<()> {
+    line(rt, b"Upper ", counts[0])?;
+    line(rt, b"Lower ", counts[1])?;
+    line(rt, b"Caseless ", counts[2])?;
+    line(rt, b"Mark ", counts[3])?;
+    line(rt, b"Number ", counts[4])?;
+    line(rt, b"Whitespace ", counts[5])?;
+    line(rt, b"Other ", counts[6])?;
+    line(rt, b"refused ", counts[7])?;
+    line(rt, b"compared ", compared)
 }
 
 // Compares all values with the list. Three numbers were refused before.
-fn compare(list: &[u8]) {
+fn compare(rt: &impl Print, list: &[u8]) -> io::Result<()> {
     let t = classes::table();
     let mut counts = [0u64, 0, 0, 0, 0, 0, 0, 3];
     let mut from = 0;
@@ -165,29 +166,43 @@ fn compare(list: &[u8]) {
         let rank = run.rank;
         let to = run.to;
         if to <= from {
-            damaged();
-            return;
+            return damaged(rt);
         }
         let c = first_other(&t, from, to, rank);
         if c < to {
-            differs(c);
-            return;
+            return differs(rt, c);
         }
         counts[rank] += (to - from) as u64;
         from = to;
         i += 8;
     }
     if from < END {
-        damaged();
+        damaged(rt)
     } else {
-        report(counts, 0x110003 - counts[REFUSED]);
+        report(rt, counts, 0x110003 - counts[REFUSED])
     }
 }
 
-fn main() {
-    let mut list = io::large_buffer();
-    let n = io::read_full(libc::STDIN_FILENO, &mut list);
-    if past_the_end() {
-        compare(&list[..n]);
+// Reads until `buf` is full or the input ends, and answers how many bytes were read.
+fn read_full(input: &mut impl Read, buf: &mut [u8]) -> io::Result<usize>
+    ensures { ReadsAtMost result buf.new }
+{
+    let mut done = 0;
+    while done < buf.len() {
+        let n = input.read(&mut buf[done..])?;
+        if n == 0 {
+            break;
+        }
+        done += n;
     }
+    Ok(done)
+}
+
+fn main(rt: HostRuntime) -> io::Result<()> {
+    let mut list = [0u8; 65536];
+    let n = read_full(&mut rt.stdin(), &mut list)?;
+    if past_the_end(&rt)? {
+        compare(&rt, &list[..n])?;
+    }
+    Ok(())
 }

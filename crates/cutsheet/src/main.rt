@@ -1,30 +1,30 @@
 // The program: cuts the sheet on its standard input under the o200k setting, and writes its listing.
 // Nothing is written before the listing is whole, and nothing at all if the sheet could not be read.
+#![tactic(auto)]
+
 ghost use Rattle.io.specs.Counts.{IsPrefixLen};
 
-use libc::{STDERR_FILENO, STDIN_FILENO, STDOUT_FILENO};
 use listing::{ROOM, SHEET_LIMIT, listing};
+use std::io;
 
 // How many bytes were read, and whether the input was read to its end or the buffer filled.
-#[derive(Drop)]
+#[derive(Clone, Copy)]
 struct Read {
     len: usize,
     is_read: bool,
 }
 
-fn read_sheet(sheet: &mut [u8]) -> Read
+fn read_sheet(input: &mut impl io::Read, sheet: &mut [u8]) -> Read
     ensures { IsPrefixLen result.len sheet.new }
 {
     let mut len = 0;
     while len < sheet.len() {
-        let got = libc::read(STDIN_FILENO, &mut sheet[len..]);
-        if got < 0 {
+        let Ok(n) = input.read(&mut sheet[len..]) else {
             return Read {
                 len: 0,
                 is_read: false,
             };
-        }
-        let n = io::count(got, &sheet[len..]);
+        };
         if n == 0 {
             break;
         }
@@ -33,25 +33,27 @@ fn read_sheet(sheet: &mut [u8]) -> Read
     Read { len, is_read: true }
 }
 
-fn write_listing(sheet: &[u8]) {
+// Tells of trouble on standard error. Where that cannot be written either, there is nobody to tell.
+fn tell(rt: &impl Eprint, trouble: &str) {
+    let _ = rt.eprintln(trouble);
+}
+
+fn write_listing(rt: &(impl Print + Eprint), sheet: &[u8]) {
     let mut out = [0u8; ROOM];
     let n = listing(sheet, &mut out);
-    if !io::write_all(STDOUT_FILENO, &out[..n]) {
-        io::write_all(
-            STDERR_FILENO,
-            b"cutsheet: the listing could not be written\n",
-        );
+    if rt.write_all(&out[..n]).is_err() {
+        tell(rt, "cutsheet: the listing could not be written");
     }
 }
 
-fn main() {
+fn main(rt: HostRuntime) {
     // One byte more than the longest sheet, so that a longer one is seen.
     let mut sheet = [0u8; SHEET_LIMIT + 1];
-    let r = read_sheet(&mut sheet);
+    let r = read_sheet(&mut rt.stdin(), &mut sheet);
     let n = r.len;
     if r.is_read {
-        write_listing(&sheet[..n]);
+        write_listing(&rt, &sheet[..n]);
     } else {
-        io::write_all(STDERR_FILENO, b"cutsheet: the sheet could not be read\n");
+        tell(&rt, "cutsheet: the sheet could not be read");
     }
 }

@@ -1,14 +1,16 @@
 // Runs document 01's examples and the edges of its refusal table through the entry points, and writes a line for each: the file
 // `stdout` holds the document's answers. What `next_end`, `token`, `fill` and the walker say of one call must agree.
+#![tactic(auto)]
+
 ghost use Rattle.std.specs.Prelude.{◌≡◌, ◌≤◌, ◌<◌, length};
 
 use classes::Asked;
-use libc::STDOUT_FILENO;
 use pattern::Options;
 use pretokenize::{Filled, NextEnd, Verdict, Walker};
+use std::io;
 
 // An answer in document 01's numbers: a token's end, or a number of the table with its place.
-#[derive(Drop)]
+#[derive(Clone, Copy)]
 struct Answer {
     is_end: bool,
     number: u32,
@@ -81,40 +83,38 @@ fn fill_agrees(text: &[u8], o: Options, start: usize, s: Answer) -> bool {
 }
 
 // The answer at a start, on which all entry points must agree.
-fn agreed(text: &[u8], o: Options, start: usize) -> Answer {
+fn agreed(rt: &impl Print, text: &[u8], o: Options, start: usize) -> io::Result<Answer> {
     let s = said(pretokenize::next_end(text, o, start));
     if token_agrees(text, o, start, s)
         && step_agrees(text, o, start, s)
         && fill_agrees(text, o, start, s)
     {
-        return s;
+        return Ok(s);
     }
-    io::write_all(STDOUT_FILENO, b" (the entry points differ)");
-    s
+    rt.write_all(b" (the entry points differ)")?;
+    Ok(s)
 }
 
-fn write_answer(s: Answer) {
+fn write_answer(rt: &impl Print, s: Answer) -> io::Result<()> {
+    let number = s.number;
+    let place = s.place;
     if s.is_end {
-        io::write_all(STDOUT_FILENO, b" ");
-        io::print_decimal(STDOUT_FILENO, s.place as u64);
-        return;
+        return print!(rt; " {place}");
     }
-    if s.number == 0 {
-        io::write_all(STDOUT_FILENO, b" end of text at ");
+    if number == 0 {
+        rt.write_all(b" end of text at ")?;
     } else {
-        io::write_all(STDOUT_FILENO, b" refused ");
-        io::print_decimal(STDOUT_FILENO, s.number as u64);
-        io::write_all(STDOUT_FILENO, b" at ");
+        print!(rt; " refused {number} at ")?;
     }
-    io::print_decimal(STDOUT_FILENO, s.place as u64);
+    print!(rt; "{place}")
 }
 
 // One call.
-fn edge(name: &[u8], text: &[u8], o: Options, start: usize) {
-    io::write_all(STDOUT_FILENO, name);
-    io::write_all(STDOUT_FILENO, b":");
-    write_answer(agreed(text, o, start));
-    io::write_all(STDOUT_FILENO, b"\n");
+fn edge(rt: &impl Print, name: &[u8], text: &[u8], o: Options, start: usize) -> io::Result<()> {
+    rt.write_all(name)?;
+    rt.write_all(b":")?;
+    write_answer(rt, agreed(rt, text, o, start)?)?;
+    rt.write_all(b"\n")
 }
 
 fn wide(n: u32) -> usize {
@@ -122,33 +122,34 @@ fn wide(n: u32) -> usize {
 }
 
 // The answers at zero and at each end that a fill gave.
-fn write_walk(text: &[u8], o: Options, ends: &[u32]) {
+fn write_walk(rt: &impl Print, text: &[u8], o: Options, ends: &[u32]) -> io::Result<()> {
     let mut start = 0;
     let mut i = 0;
     while i < ends.len() {
-        write_answer(agreed(text, o, start));
+        write_answer(rt, agreed(rt, text, o, start)?)?;
         start = wide(ends[i]);
         i += 1;
     }
+    Ok(())
 }
 
 // A walk from zero.
-fn example(name: &[u8], text: &[u8], o: Options) {
-    io::write_all(STDOUT_FILENO, name);
-    io::write_all(STDOUT_FILENO, b":");
+fn example(rt: &impl Print, name: &[u8], text: &[u8], o: Options) -> io::Result<()> {
+    rt.write_all(name)?;
+    rt.write_all(b":")?;
     let mut ends = [0u32; 64];
     let f = pretokenize::fill(text, o, 0, &mut ends);
     match f {
         Filled::Ends(count, next) => {
             if count <= 64 && next == text.len() {
-                write_walk(text, o, &ends[..count]);
+                write_walk(rt, text, o, &ends[..count])?;
             } else {
-                io::write_all(STDOUT_FILENO, b" not to the end");
+                rt.write_all(b" not to the end")?;
             }
         }
-        Filled::Refused(_) => write_answer(agreed(text, o, 0)),
+        Filled::Refused(_) => write_answer(rt, agreed(rt, text, o, 0)?)?,
     }
-    io::write_all(STDOUT_FILENO, b"\n");
+    rt.write_all(b"\n")
 }
 
 fn options(contractions: bool, digits: u8, slash: bool) -> Options {
@@ -164,140 +165,160 @@ fn mode(digits: u8) -> Options {
 }
 
 // The examples, in the document's order; those that are marked are proved of the definition too.
-fn bench_examples() {
+fn bench_examples(rt: &impl Print) -> io::Result<()> {
     let o = Options::o200k();
-    example(b"empty", b"", o);
-    example(b"THD 1250", b"THD 1250", o);
-    example(b"THD 1250, mode 2", b"THD 1250", mode(2));
-    example(b"THD 1250, mode 0", b"THD 1250", mode(0));
-    example(b"0,5", b"0,5", o);
+    example(rt, b"empty", b"", o)?;
+    example(rt, b"THD 1250", b"THD 1250", o)?;
+    example(rt, b"THD 1250, mode 2", b"THD 1250", mode(2))?;
+    example(rt, b"THD 1250, mode 0", b"THD 1250", mode(0))?;
+    example(rt, b"0,5", b"0,5", o)
 }
 
-fn suffix_examples() {
+fn suffix_examples(rt: &impl Print) -> io::Result<()> {
     let o = Options::o200k();
-    example(b"don't", b"don't", o);
+    example(rt, b"don't", b"don't", o)?;
     example(
+        rt,
         b"don't, contractions off",
         b"don't",
         options(false, 1, true),
-    );
-    example(b"'sound", b"'sound", o);
-    example(b"x'll'd", b"x'll'd", o);
-    example(b"61 27 C5 BF 62", b"a'\xc5\xbfb", o);
+    )?;
+    example(rt, b"'sound", b"'sound", o)?;
+    example(rt, b"x'll'd", b"x'll'd", o)?;
+    example(rt, b"61 27 C5 BF 62", b"a'\xc5\xbfb", o)
 }
 
-fn case_examples() {
+fn case_examples(rt: &impl Print) -> io::Result<()> {
     let o = Options::o200k();
-    example(b"D7 90 41", b"\xd7\x90A", o);
-    example(b"D7 90 41 62", b"\xd7\x90Ab", o);
-    example(b"CC 81 41", b"\xcc\x81A", o);
+    example(rt, b"D7 90 41", b"\xd7\x90A", o)?;
+    example(rt, b"D7 90 41 62", b"\xd7\x90Ab", o)?;
+    example(rt, b"CC 81 41", b"\xcc\x81A", o)
 }
 
-fn white_examples() {
+fn white_examples(rt: &impl Print) -> io::Result<()> {
     let o = Options::o200k();
-    example(b"two spaces and a", b"  a", o);
-    example(b"20 0A 20 78", b" \n x", o);
-    example(b"21 0A 2F 21", b"!\n/!", o);
-    example(b"21 0A 2F 21, slash off", b"!\n/!", options(true, 1, false));
+    example(rt, b"two spaces and a", b"  a", o)?;
+    example(rt, b"20 0A 20 78", b" \n x", o)?;
+    example(rt, b"21 0A 2F 21", b"!\n/!", o)?;
+    example(
+        rt,
+        b"21 0A 2F 21, slash off",
+        b"!\n/!",
+        options(true, 1, false),
+    )
 }
 
-fn mixed_examples() {
+fn mixed_examples(rt: &impl Print) -> io::Result<()> {
     let o = Options::o200k();
-    example(b"aB", b"aB", o);
-    example(b"ABc", b"ABc", o);
-    example(b"09 56", b"\tV", o);
-    example(b"09 35", b"\t5", o);
-    example(b"C2 A0 61", b"\xc2\xa0a", o);
-    example(b"31 C2 B2 33 34", b"1\xc2\xb234", o);
-    example(b"31 C2 B2 33 34, mode 2", b"1\xc2\xb234", mode(2));
+    example(rt, b"aB", b"aB", o)?;
+    example(rt, b"ABc", b"ABc", o)?;
+    example(rt, b"09 56", b"\tV", o)?;
+    example(rt, b"09 35", b"\t5", o)?;
+    example(rt, b"C2 A0 61", b"\xc2\xa0a", o)?;
+    example(rt, b"31 C2 B2 33 34", b"1\xc2\xb234", o)?;
+    example(rt, b"31 C2 B2 33 34, mode 2", b"1\xc2\xb234", mode(2))
 }
 
 // The text's own refusal, and where it passes the token at zero.
-fn damage() {
+fn damage(rt: &impl Print) -> io::Result<()> {
     let o = Options::o200k();
-    edge(b"F4 8F BF BF", b"\xf4\x8f\xbf\xbf", o, 0);
-    edge(b"F4 90 80 80", b"\xf4\x90\x80\x80", o, 0);
-    edge(b"C2 80", b"\xc2\x80", o, 0);
-    edge(b"C0 80", b"\xc0\x80", o, 0);
-    edge(b"ED 9F BF", b"\xed\x9f\xbf", o, 0);
-    edge(b"ED A0 80", b"\xed\xa0\x80", o, 0);
-    edge(b"E2 82", b"\xe2\x82", o, 0);
-    edge(b"a euro sign FF", b"a\xe2\x82\xac\xff", o, 0);
+    edge(rt, b"F4 8F BF BF", b"\xf4\x8f\xbf\xbf", o, 0)?;
+    edge(rt, b"F4 90 80 80", b"\xf4\x90\x80\x80", o, 0)?;
+    edge(rt, b"C2 80", b"\xc2\x80", o, 0)?;
+    edge(rt, b"C0 80", b"\xc0\x80", o, 0)?;
+    edge(rt, b"ED 9F BF", b"\xed\x9f\xbf", o, 0)?;
+    edge(rt, b"ED A0 80", b"\xed\xa0\x80", o, 0)?;
+    edge(rt, b"E2 82", b"\xe2\x82", o, 0)?;
+    edge(rt, b"a euro sign FF", b"a\xe2\x82\xac\xff", o, 0)
 }
 
-fn starts() {
+fn starts(rt: &impl Print) -> io::Result<()> {
     let o = Options::o200k();
-    edge(b"abc from 3", b"abc", o, 3);
-    edge(b"abc from 4", b"abc", o, 4);
-    edge(b"abc from the last start", b"abc", o, 0xffffffffffffffff);
-    edge(b"empty from 0", b"", o, 0);
-    edge(b"empty from 1", b"", o, 1);
+    edge(rt, b"abc from 3", b"abc", o, 3)?;
+    edge(rt, b"abc from 4", b"abc", o, 4)?;
+    edge(
+        rt,
+        b"abc from the last start",
+        b"abc",
+        o,
+        0xffffffffffffffff,
+    )?;
+    edge(rt, b"empty from 0", b"", o, 0)?;
+    edge(rt, b"empty from 1", b"", o, 1)
 }
 
-fn starts_in_characters() {
+fn starts_in_characters(rt: &impl Print) -> io::Result<()> {
     let o = Options::o200k();
     let text = b"\xc3\xa9\xe2\x82\xac\xf0\x9f\x98\x80";
-    edge(b"two bytes from 1", text, o, 1);
-    edge(b"three bytes from 3", text, o, 3);
-    edge(b"three bytes from 4", text, o, 4);
-    edge(b"four bytes from 6", text, o, 6);
-    edge(b"four bytes from 7", text, o, 7);
-    edge(b"four bytes from 8", text, o, 8);
-    edge(b"after them from 9", text, o, 9);
+    edge(rt, b"two bytes from 1", text, o, 1)?;
+    edge(rt, b"three bytes from 3", text, o, 3)?;
+    edge(rt, b"three bytes from 4", text, o, 4)?;
+    edge(rt, b"four bytes from 6", text, o, 6)?;
+    edge(rt, b"four bytes from 7", text, o, 7)?;
+    edge(rt, b"four bytes from 8", text, o, 8)?;
+    edge(rt, b"after them from 9", text, o, 9)
 }
 
 // The first of several refusals, in the order 1, 2, 3, then 4 or 5.
-fn order(long: &[u8]) {
+fn order(rt: &impl Print, long: &[u8]) -> io::Result<()> {
     let damaged = b"\xc3\xa9\xff";
-    edge(b"mode 3", b"abc", mode(3), 0);
-    edge(b"mode 255", b"abc", mode(255), 0);
-    edge(b"mode 3 at the end of text", b"abc", mode(3), 3);
+    edge(rt, b"mode 3", b"abc", mode(3), 0)?;
+    edge(rt, b"mode 255", b"abc", mode(255), 0)?;
+    edge(rt, b"mode 3 at the end of text", b"abc", mode(3), 3)?;
     edge(
+        rt,
         b"mode 3, over the limit, damaged, past the end",
         long,
         mode(3),
         2000000,
-    );
-    edge(b"mode 3, damaged, inside a character", damaged, mode(3), 1);
+    )?;
+    edge(
+        rt,
+        b"mode 3, damaged, inside a character",
+        damaged,
+        mode(3),
+        1,
+    )
 }
 
-fn order_past_mode(long: &[u8]) {
+fn order_past_mode(rt: &impl Print, long: &[u8]) -> io::Result<()> {
     let o = Options::o200k();
     let damaged = b"\xc3\xa9\xff";
-    edge(b"over the limit, damaged, past the end", long, o, 2000000);
-    edge(b"damaged, past the end", damaged, o, 4);
-    edge(b"damaged, inside a character", damaged, o, 1);
-    edge(b"damaged, at the end of text", damaged, o, 3);
+    edge(
+        rt,
+        b"over the limit, damaged, past the end",
+        long,
+        o,
+        2000000,
+    )?;
+    edge(rt, b"damaged, past the end", damaged, o, 4)?;
+    edge(rt, b"damaged, inside a character", damaged, o, 1)?;
+    edge(rt, b"damaged, at the end of text", damaged, o, 3)
 }
 
 // A fill without room: a count of 0 and the start again, unless the call is refused.
-fn no_room(name: &[u8], text: &[u8], o: Options, start: usize) {
-    io::write_all(STDOUT_FILENO, name);
+fn no_room(rt: &impl Print, name: &[u8], text: &[u8], o: Options, start: usize) -> io::Result<()> {
+    rt.write_all(name)?;
     let mut ends = [0u32; 1];
     let f = pretokenize::fill(text, o, start, &mut ends[..0]);
     match f {
-        Filled::Ends(count, next) => {
-            io::write_all(STDOUT_FILENO, b": count ");
-            io::print_decimal(STDOUT_FILENO, count as u64);
-            io::write_all(STDOUT_FILENO, b", next ");
-            io::print_decimal(STDOUT_FILENO, next as u64);
-        }
+        Filled::Ends(count, next) => print!(rt; ": count {count}, next {next}")?,
         Filled::Refused(_) => {
-            io::write_all(STDOUT_FILENO, b":");
-            write_answer(agreed(text, o, start));
+            rt.write_all(b":")?;
+            write_answer(rt, agreed(rt, text, o, start)?)?;
         }
     }
-    io::write_all(STDOUT_FILENO, b"\n");
+    rt.write_all(b"\n")
 }
 
-fn rooms() {
+fn rooms(rt: &impl Print) -> io::Result<()> {
     let o = Options::o200k();
-    no_room(b"no room, abc from 0", b"abc", o, 0);
-    no_room(b"no room, abc from 1", b"abc", o, 1);
-    no_room(b"no room, abc from 3", b"abc", o, 3);
-    no_room(b"no room, abc from 4", b"abc", o, 4);
-    no_room(b"no room, mode 3", b"abc", mode(3), 0);
-    no_room(b"no room, damaged", b"abc\xff", o, 0);
+    no_room(rt, b"no room, abc from 0", b"abc", o, 0)?;
+    no_room(rt, b"no room, abc from 1", b"abc", o, 1)?;
+    no_room(rt, b"no room, abc from 3", b"abc", o, 3)?;
+    no_room(rt, b"no room, abc from 4", b"abc", o, 4)?;
+    no_room(rt, b"no room, mode 3", b"abc", mode(3), 0)?;
+    no_room(rt, b"no room, damaged", b"abc\xff", o, 0)
 }
 
 // As many bytes as are taken, and one more.
@@ -313,42 +334,42 @@ fn more_bytes(b: u8) -> [u8; 1048577]
     [b; 1048577]
 }
 
-fn limits() {
+fn limits(rt: &impl Print) -> io::Result<()> {
     let o = Options::o200k();
     let most = most_bytes(b'a');
-    edge(b"1048576 bytes", &most, o, 0);
-    edge(b"1048576 bytes from the last", &most, o, 1048575);
+    edge(rt, b"1048576 bytes", &most, o, 0)?;
+    edge(rt, b"1048576 bytes from the last", &most, o, 1048575)?;
     let more = more_bytes(b'a');
-    edge(b"1048577 bytes", &more, o, 0);
+    edge(rt, b"1048577 bytes", &more, o, 0)
 }
 
-fn damaged_limits() {
+fn damaged_limits(rt: &impl Print) -> io::Result<()> {
     let o = Options::o200k();
     let most = most_bytes(0xff);
-    edge(b"1048576 bytes, damaged", &most, o, 0);
+    edge(rt, b"1048576 bytes, damaged", &most, o, 0)?;
     let more = more_bytes(0xff);
-    order(&more);
-    order_past_mode(&more);
+    order(rt, &more)?;
+    order_past_mode(rt, &more)
 }
 
 // A class asked of a number that is no scalar value is refusal 6, place 0.
-fn class_edge(name: &[u8], c: u32) {
-    io::write_all(STDOUT_FILENO, name);
+fn class_edge(rt: &impl Print, name: &[u8], c: u32) -> io::Result<()> {
+    rt.write_all(name)?;
     let a = classes::class_of(c);
     match a {
-        Asked::Is(_) => io::write_all(STDOUT_FILENO, b": has a class\n"),
-        Asked::NoScalar => io::write_all(STDOUT_FILENO, b": refused 6 at 0\n"),
-    };
+        Asked::Is(_) => rt.write_all(b": has a class\n"),
+        Asked::NoScalar => rt.write_all(b": refused 6 at 0\n"),
+    }
 }
 
-fn class_edges() {
-    class_edge(b"class of D7FF", 0xd7ff);
-    class_edge(b"class of D800", 0xd800);
-    class_edge(b"class of DFFF", 0xdfff);
-    class_edge(b"class of E000", 0xe000);
-    class_edge(b"class of 10FFFF", 0x10ffff);
-    class_edge(b"class of 110000", 0x110000);
-    class_edge(b"class of FFFFFFFF", 0xffffffff);
+fn class_edges(rt: &impl Print) -> io::Result<()> {
+    class_edge(rt, b"class of D7FF", 0xd7ff)?;
+    class_edge(rt, b"class of D800", 0xd800)?;
+    class_edge(rt, b"class of DFFF", 0xdfff)?;
+    class_edge(rt, b"class of E000", 0xe000)?;
+    class_edge(rt, b"class of 10FFFF", 0x10ffff)?;
+    class_edge(rt, b"class of 110000", 0x110000)?;
+    class_edge(rt, b"class of FFFFFFFF", 0xffffffff)
 }
 
 fn width(c: u32) -> usize
@@ -426,41 +447,42 @@ fn count_inside(from: u32, to: u32) -> usize
     count
 }
 
-fn count_edge(name: &[u8], n: usize) {
-    io::write_all(STDOUT_FILENO, name);
-    io::write_all(STDOUT_FILENO, b": ");
-    io::print_decimal(STDOUT_FILENO, n as u64);
-    io::write_all(STDOUT_FILENO, b"\n");
+fn count_edge(rt: &impl Print, name: &[u8], n: usize) -> io::Result<()> {
+    rt.write_all(name)?;
+    println!(rt; ": {n}")
 }
 
 // Every start inside every character.
-fn every_start() {
+fn every_start(rt: &impl Print) -> io::Result<()> {
     count_edge(
+        rt,
         b"starts inside a character of two bytes, refused 5 at 0",
         count_inside(0x80, 0x800),
-    );
+    )?;
     count_edge(
+        rt,
         b"starts inside a character of three bytes, refused 5 at 0",
         count_inside(0x800, 0xd800) + count_inside(0xe000, 0x10000),
-    );
+    )?;
     count_edge(
+        rt,
         b"starts inside a character of four bytes, refused 5 at 0",
         count_inside(0x10000, 0x110000),
-    );
+    )
 }
 
-fn main() {
-    bench_examples();
-    suffix_examples();
-    case_examples();
-    white_examples();
-    mixed_examples();
-    damage();
-    starts();
-    starts_in_characters();
-    limits();
-    damaged_limits();
-    rooms();
-    class_edges();
-    every_start();
+fn main(rt: HostRuntime) -> io::Result<()> {
+    bench_examples(&rt)?;
+    suffix_examples(&rt)?;
+    case_examples(&rt)?;
+    white_examples(&rt)?;
+    mixed_examples(&rt)?;
+    damage(&rt)?;
+    starts(&rt)?;
+    starts_in_characters(&rt)?;
+    limits(&rt)?;
+    damaged_limits(&rt)?;
+    rooms(&rt)?;
+    class_edges(&rt)?;
+    every_start(&rt)
 }

@@ -14,7 +14,7 @@ front_length v old h = omega (arith, length-append v (drop (length v) old), leng
 pub front_fits : (v old l : List ℕ) → l ≡ on_front v old → length v ≤ length l
 front_fits v old l e = omega (arith, ap length e, length-append v (drop (length v) old))
 
--- what `bytes::copy` leaves
+-- all of v, and what stood behind it
 pub copied : (v old : List ℕ) → take (length v) v ++ drop (length v) old ≡ on_front v old
 copied v old = ap (λ l. l ++ drop (length v) old) (take-length v)
 

@@ -1,4 +1,6 @@
 // The lines that the program writes for a sheet.
+#![tactic(auto)]
+
 ghost use Rattle.std.specs.Prelude.{◌≡◌, ◌++◌, ◌≤◌, length};
 ghost use Rattle.io.specs.Counts.{IsPrefixLen};
 ghost use Rattle.listing.specs.Listing.{decimal, line, lines, ends_lines, refused_line, listing, on_front};
@@ -18,6 +20,16 @@ fn wide(n: u32) -> u64
     n as u64
 }
 
+// Copies all of `from` to the front of `out`, and answers how many bytes that is.
+fn copy(from: &[u8], out: &mut [u8]) -> usize
+    requires { length from.now ≤ length out.old }
+    ensures { (result ≡ length from.now) × (out.new ≡ on_front from.now out.old) }
+{
+    let n = from.len();
+    out[..n].copy_from_slice(from);
+    n
+}
+
 // Some words and a number.
 fn put(words: &[u8], n: u64, out: &mut [u8]) -> usize
     requires { length (words.now ++ decimal n) ≤ length out.old }
@@ -25,8 +37,8 @@ fn put(words: &[u8], n: u64, out: &mut [u8]) -> usize
 {
     let mut digits = [0u8; 20];
     let k = io::decimal(n, &mut digits);
-    let at = bytes::copy(words, out);
-    at + bytes::copy(&digits[..k], &mut out[at..])
+    let at = copy(words, out);
+    at + copy(&digits[..k], &mut out[at..])
 }
 
 fn put_line(words: &[u8], n: u64, out: &mut [u8]) -> usize

@@ -1,15 +1,19 @@
 // Replays the oracle's kept cases. A line of standard input is a case, `C D S START HEX`: contractions, digit mode, slash, the start, and
 // the text's bytes in hex, `-` for none. The line is written again with the ends of the walk from the start, or the refusal, behind
 // it: the file `stdout` holds the oracle's answers.
+#![tactic(auto)]
+
 ghost use Rattle.std.specs.Prelude.{◌≡◌, ◌≤◌, length};
+ghost use Rattle.std.specs.Io.{ReadsAtMost};
 
 use classes::is_digit;
-use libc::{STDIN_FILENO, STDOUT_FILENO};
 use pattern::Options;
 use pretokenize::{Filled, Refusal};
+use std::io;
+use std::io::Read;
 
 // A number of the line, and where the next field begins.
-#[derive(Drop)]
+#[derive(Clone, Copy)]
 struct Field {
     value: usize,
     next: usize,
@@ -68,36 +72,37 @@ fn wide(n: u32) -> u64 {
     n as u64
 }
 
-fn write_number(before: &[u8], n: u64) {
-    io::write_all(STDOUT_FILENO, before);
-    io::print_decimal(STDOUT_FILENO, n);
+fn write_number(rt: &impl Print, before: &[u8], n: u64) -> io::Result<()> {
+    rt.write_all(before)?;
+    print!(rt; "{n}")
 }
 
-fn write_ends(ends: &[u32]) {
+fn write_ends(rt: &impl Print, ends: &[u32]) -> io::Result<()> {
     let mut i = 0;
     while i < ends.len() {
-        write_number(b" ", wide(ends[i]));
+        write_number(rt, b" ", wide(ends[i]))?;
         i += 1;
     }
+    Ok(())
 }
 
-fn write_refusal(r: Refusal) {
-    write_number(b" refused ", wide(r.number()));
-    write_number(b" at ", r.place() as u64);
+fn write_refusal(rt: &impl Print, r: Refusal) -> io::Result<()> {
+    write_number(rt, b" refused ", wide(r.number()))?;
+    write_number(rt, b" at ", r.place() as u64)
 }
 
-fn write_answer(text: &[u8], o: Options, start: usize) {
+fn write_answer(rt: &impl Print, text: &[u8], o: Options, start: usize) -> io::Result<()> {
     let mut ends = [0u32; 256];
     let f = pretokenize::fill(text, o, start, &mut ends);
     match f {
         Filled::Ends(count, next) => {
             if count <= 256 && (next == text.len()) {
-                write_ends(&ends[..count]);
+                write_ends(rt, &ends[..count])
             } else {
-                io::write_all(STDOUT_FILENO, b" no walk to the end");
+                rt.write_all(b" no walk to the end")
             }
         }
-        Filled::Refused(r) => write_refusal(r),
+        Filled::Refused(r) => write_refusal(rt, r),
     }
 }
 
@@ -105,7 +110,7 @@ fn small(n: usize) -> u8 {
     if n < 256 { n as u8 } else { 255 }
 }
 
-fn replay(line: &[u8]) {
+fn replay(rt: &impl Print, line: &[u8]) -> io::Result<()> {
     let contractions = number_at(line, 0);
     let digits = number_at(line, contractions.next);
     let slash = number_at(line, digits.next);
@@ -117,10 +122,10 @@ fn replay(line: &[u8]) {
     };
     let mut text = [0u8; 256];
     let n = unhex(line, start.next, &mut text);
-    io::write_all(STDOUT_FILENO, line);
-    io::write_all(STDOUT_FILENO, b":");
-    write_answer(&text[..n], o, start.value);
-    io::write_all(STDOUT_FILENO, b"\n");
+    rt.write_all(line)?;
+    rt.write_all(b":")?;
+    write_answer(rt, &text[..n], o, start.value)?;
+    rt.write_all(b"\n")
 }
 
 // The place of the first LF from a place on, or the length.
@@ -135,13 +140,14 @@ fn line_end(cases: &[u8], from: usize) -> usize
     i
 }
 
-fn replay_all(cases: &[u8]) {
+fn replay_all(rt: &impl Print, cases: &[u8]) -> io::Result<()> {
     let mut at = 0;
     while at < cases.len() {
         let end = line_end(cases, at);
-        replay(&cases[at..end]);
+        replay(rt, &cases[at..end])?;
         at = end + 1;
     }
+    Ok(())
 }
 
 fn space() -> [u8; 524288]
@@ -150,8 +156,23 @@ fn space() -> [u8; 524288]
     [0; 524288]
 }
 
-fn main() {
+// Reads until `buf` is full or the input ends, and answers how many bytes were read.
+fn read_full(input: &mut impl Read, buf: &mut [u8]) -> io::Result<usize>
+    ensures { ReadsAtMost result buf.new }
+{
+    let mut done = 0;
+    while done < buf.len() {
+        let n = input.read(&mut buf[done..])?;
+        if n == 0 {
+            break;
+        }
+        done += n;
+    }
+    Ok(done)
+}
+
+fn main(rt: HostRuntime) -> io::Result<()> {
     let mut cases = space();
-    let n = io::read_full(STDIN_FILENO, &mut cases);
-    replay_all(&cases[..n]);
+    let n = read_full(&mut rt.stdin(), &mut cases)?;
+    replay_all(&rt, &cases[..n])
 }

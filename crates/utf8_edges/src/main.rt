@@ -1,13 +1,15 @@
 // Runs the refusal edges of document 01, and every lead byte with every second byte, through the check and the decoder.
 // The pairs are compared with a rule in another form than the decoder's: the bits are put together by the lead byte's leading
 // ones, and then what is overlong, a surrogate or past the last value is refused.
+#![tactic(auto)]
+
 ghost use Rattle.std.specs.Prelude.{◌≡◌, ◌≤◌, ◌<◌, length};
 
-use libc::STDOUT_FILENO;
+use std::io;
 use utf8::{Checked, Decoded};
 
 // What the rule says of the start of some bytes: the scalar value and the width, which is 0 where they are ill-formed.
-#[derive(Drop)]
+#[derive(Clone, Copy)]
 struct Said {
     value: u32,
     width: usize,
@@ -189,35 +191,31 @@ fn pair_width(pair: u32, is_cut: bool) -> usize
     width_of(&text)
 }
 
-fn line(name: &[u8], n: u64) {
-    io::write_all(STDOUT_FILENO, name);
-    io::print_decimal(STDOUT_FILENO, n);
-    io::write_all(STDOUT_FILENO, b"\n");
+fn line(rt: &impl Print, name: &[u8], n: u64) -> io::Result<()> {
+    rt.write_all(name)?;
+    println!(rt; "{n}")
 }
 
-fn differs(pair: u32) {
-    io::write_all(STDOUT_FILENO, b"differs at ");
-    io::print_hex(STDOUT_FILENO, (pair / 256) as u64, 2);
-    io::write_all(STDOUT_FILENO, b" ");
-    io::print_hex(STDOUT_FILENO, (pair % 256) as u64, 2);
-    io::write_all(STDOUT_FILENO, b"\n");
+fn differs(rt: &impl Print, pair: u32) -> io::Result<()> {
+    let lead = pair / 256;
+    let second = pair % 256;
+    println!(rt; "differs at {lead:02x} {second:02x}")
 }
 
-fn pairs() {
+fn pairs(rt: &impl Print) -> io::Result<()> {
     let pair = first_other();
     if pair < 65536 {
-        differs(pair);
-        return;
+        return differs(rt, pair);
     }
-    line(b"pairs ", pair as u64);
-    line(b"1 byte ", count(1, false));
-    line(b"2 bytes ", count(2, false));
-    line(b"3 bytes ", count(3, false));
-    line(b"4 bytes ", count(4, false));
-    line(b"ill-formed ", count(0, false));
-    line(b"cut short, 1 byte ", count(1, true));
-    line(b"cut short, 2 bytes ", count(2, true));
-    line(b"cut short, ill-formed ", count(0, true));
+    line(rt, b"pairs ", pair as u64)?;
+    line(rt, b"1 byte ", count(1, false))?;
+    line(rt, b"2 bytes ", count(2, false))?;
+    line(rt, b"3 bytes ", count(3, false))?;
+    line(rt, b"4 bytes ", count(4, false))?;
+    line(rt, b"ill-formed ", count(0, false))?;
+    line(rt, b"cut short, 1 byte ", count(1, true))?;
+    line(rt, b"cut short, 2 bytes ", count(2, true))?;
+    line(rt, b"cut short, ill-formed ", count(0, true))
 }
 
 fn is_bad(text: &[u8], at: usize) -> bool {
@@ -230,41 +228,41 @@ fn is_bad(text: &[u8], at: usize) -> bool {
 }
 
 // The end of the line of an edge that the check passes. The decoder must find one character there, or nothing.
-fn passes(text: &[u8]) {
+fn passes(rt: &impl Print, text: &[u8]) -> io::Result<()> {
     if width_of(text) == text.len() {
-        io::write_all(STDOUT_FILENO, b" valid\n");
+        rt.write_all(b" valid\n")
     } else {
-        io::write_all(STDOUT_FILENO, b" differs\n");
+        rt.write_all(b" differs\n")
     }
 }
 
 // The end of the line of an edge that is refused at a place. The decoder must refuse it there.
-fn refuses(text: &[u8], at: usize) {
+fn refuses(rt: &impl Print, text: &[u8], at: usize) -> io::Result<()> {
     if is_bad(text, at) {
-        line(b" bad at ", at as u64);
+        line(rt, b" bad at ", at as u64)
     } else {
-        io::write_all(STDOUT_FILENO, b" differs\n");
+        rt.write_all(b" differs\n")
     }
 }
 
-fn edge(name: &[u8], text: &[u8]) {
-    io::write_all(STDOUT_FILENO, name);
+fn edge(rt: &impl Print, name: &[u8], text: &[u8]) -> io::Result<()> {
+    rt.write_all(name)?;
     let k = utf8::check(text);
     match k {
-        Checked::Valid => passes(text),
-        Checked::BadAt(i) => refuses(text, i),
+        Checked::Valid => passes(rt, text),
+        Checked::BadAt(i) => refuses(rt, text, i),
     }
 }
 
-fn main() {
-    edge(b"F4 8F BF BF", b"\xf4\x8f\xbf\xbf");
-    edge(b"F4 90 80 80", b"\xf4\x90\x80\x80");
-    edge(b"C2 80", b"\xc2\x80");
-    edge(b"C0 80", b"\xc0\x80");
-    edge(b"ED 9F BF", b"\xed\x9f\xbf");
-    edge(b"ED A0 80", b"\xed\xa0\x80");
-    edge(b"E2 82", b"\xe2\x82");
-    edge(b"61 E2 82 AC FF", b"a\xe2\x82\xac\xff");
-    edge(b"empty", b"");
-    pairs();
+fn main(rt: HostRuntime) -> io::Result<()> {
+    edge(&rt, b"F4 8F BF BF", b"\xf4\x8f\xbf\xbf")?;
+    edge(&rt, b"F4 90 80 80", b"\xf4\x90\x80\x80")?;
+    edge(&rt, b"C2 80", b"\xc2\x80")?;
+    edge(&rt, b"C0 80", b"\xc0\x80")?;
+    edge(&rt, b"ED 9F BF", b"\xed\x9f\xbf")?;
+    edge(&rt, b"ED A0 80", b"\xed\xa0\x80")?;
+    edge(&rt, b"E2 82", b"\xe2\x82")?;
+    edge(&rt, b"61 E2 82 AC FF", b"a\xe2\x82\xac\xff")?;
+    edge(&rt, b"empty", b"")?;
+    pairs(&rt)
 }
