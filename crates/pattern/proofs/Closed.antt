@@ -15,7 +15,7 @@ use Rattle.classes.specs.declared.Class.{Class}
 use Rattle.classes.specs.declared.Class.TheVariants.{Upper, Lower, Caseless, Mark, Number, Whitespace, Other}
 use Rattle.pattern.specs.declared.Options.{Options}
 use Rattle.pattern.specs.Regex.{Set, just, char, holds, run, spells, either_case}
-use Rattle.pattern.specs.Pattern.{token, newline as newlineSet}
+use Rattle.pattern.specs.Pattern.{token, newline as newline_set}
 use Rattle.pattern.specs.Records.{none_of, fresh}
 use Rattle.pattern.proofs.Trial.{opens}
 use Rattle.pattern.proofs.Runs.{run_step, after, last_step, last_in, AllO, last_all, last_none}
@@ -34,13 +34,13 @@ closed_snoc (z ∷ zs) c h = there (closed_snoc zs c h)
 
 -- no CR or LF in the leading run of white space
 unfoldable quiet : List ℕ → Bool
-quiet cs = none_of newlineSet (take (run white cs) cs)
+quiet cs = none_of newline_set (take (run white cs) cs)
 
 quiet_step : (c : ℕ) (cs : List ℕ) → quiet (c ∷ cs) ≡ cond (white c) (and (not (newline c)) (quiet cs)) true
 unfolding quiet none_of
 quiet_step c cs = rw (run_step white c cs) (by (white c))
   where
-    by : (b : Bool) → none_of newlineSet (take (cond b (suc (run white cs)) 0) (c ∷ cs)) ≡ cond b (and (not (newline c)) (none_of newlineSet (take (run white cs) cs))) true
+    by : (b : Bool) → none_of newline_set (take (cond b (suc (run white cs)) 0) (c ∷ cs)) ≡ cond b (and (not (newline c)) (none_of newline_set (take (run white cs) cs))) true
     by true = refl
     by false = refl
 

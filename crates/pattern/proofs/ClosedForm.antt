@@ -16,7 +16,7 @@ use Rattle.pattern.proofs.Trial.{opens, first_trials, or_assoc, or_none, stop, o
 use Rattle.pattern.proofs.Runs.{run_step, after, last_step, last_in, last_after}
 use Rattle.pattern.proofs.Greedy.{map_o, many_total, many_some}
 use Rattle.pattern.specs.declared.Options.{Options}
-use Rattle.pattern.specs.Pattern.{alternatives, suffix, digits, token, space, upperish as upperSet, lowerish as lowerSet, white as whiteSet, punct as punctSet, newline as newlineSet, prefix as prefixSet, tail as tailSet}
+use Rattle.pattern.specs.Pattern.{alternatives, suffix, digits, token, space, upperish as upper_set, lowerish as lower_set, white as white_set, punct as punct_set, newline as newline_set, prefix as prefix_set, tail as tail_set}
 use Rattle.pattern.proofs.Step.{upperish, lowerish, number, white, punct, newline, prefix, tail, is, is_prefix, is_upperish, is_lowerish, is_white, is_wordy, wordy, case_end, first_fit, suffix_table, suffix_end, word_end, punct_end, is_end, keep, space_end, group_of, step_by, step}
 use Rattle.pattern.proofs.Sets.{newline_white, newline_is_not_space, space_white, prefix_is}
 
@@ -41,10 +41,10 @@ suffix_is o = fun_ext λ ds. by o.contractions ds
 
 -- words without the prefix, by alternative 1 and by 2
 lower_part : Options → List Piece
-lower_part o = many upperSet ∷ plus lowerSet ∷ suffix o.contractions
+lower_part o = many upper_set ∷ plus lower_set ∷ suffix o.contractions
 
 upper_part : Options → List Piece
-upper_part o = plus upperSet ∷ many lowerSet ∷ suffix o.contractions
+upper_part o = plus upper_set ∷ many lower_set ∷ suffix o.contractions
 
 lower_is : (o : Options) (cs : List ℕ) → trial (lower_part o) stop cs ≡ map_o (after (suffix_end o) cs) (last_in upperish lowerish cs)
 unfolding trial trial_piece lower_part
@@ -86,7 +86,7 @@ word_is o (c ∷ cs) = rw (lower_is o (c ∷ cs), upper_is o c cs, run_step uppe
 
 -- alternatives 1 and 2, with the prefix
 words : Options → List ℕ → Option ℕ
-words o cs = or_else (trial (opt prefixSet ∷ lower_part o) stop cs) (trial (opt prefixSet ∷ upper_part o) stop cs)
+words o cs = or_else (trial (opt prefix_set ∷ lower_part o) stop cs) (trial (opt prefix_set ∷ upper_part o) stop cs)
 
 words_open : (o : Options) (c : ℕ) (cs : List ℕ) → words o (c ∷ cs)
     ≡ or_else (or_else (cond (prefix c) (up (trial (lower_part o) stop cs)) none) (trial (lower_part o) stop (c ∷ cs)))
@@ -160,7 +160,7 @@ digits_is (suc (suc d)) c cs = rw (run_step number c cs) (by (number c) (run num
     by false r = refl
 
 punct_part : Options → List Piece
-punct_part o = plus punctSet ∷ many (tailSet o.slash) ∷ []
+punct_part o = plus punct_set ∷ many (tail_set o.slash) ∷ []
 
 punct_is : (o : Options) (cs : List ℕ) → trial (punct_part o) stop cs ≡ cond (opens punct cs) (some (punct_end o cs)) none
 unfolding trial trial_piece trial_one punct_part opens punct_end
@@ -190,8 +190,8 @@ shy_is (c ∷ cs) = rw (shy_is cs, run_step white c cs) (by (is_white (class_of 
 
 -- alternatives 5, 6 and 7
 spaces : List ℕ → Option ℕ
-spaces cs = or_else (trial (many whiteSet ∷ plus newlineSet ∷ []) stop cs)
-    (or_else (trial (plus whiteSet ∷ not_ahead (just non_white) ∷ []) stop cs) (trial (plus whiteSet ∷ []) stop cs))
+spaces cs = or_else (trial (many white_set ∷ plus newline_set ∷ []) stop cs)
+    (or_else (trial (plus white_set ∷ not_ahead (just non_white) ∷ []) stop cs) (trial (plus white_set ∷ []) stop cs))
 
 spaces_open : (c : ℕ) (cs : List ℕ) → spaces (c ∷ cs)
     ≡ or_else (trial_many white (trial_one newline (trial_many newline stop)) (c ∷ cs))
@@ -222,7 +222,7 @@ punct_open o c cs = refl
 token_open : (o : Options) (cs : List ℕ) → token o cs
     ≡ or_zero (or_else (words o cs) (or_else (trial (digits o.digits ∷ []) stop cs) (or_else (punctuation o cs) (spaces cs))))
 unfolding token words punctuation spaces lower_part upper_part punct_part
-token_open o cs = rw (first_trials (alternatives o) cs, or_none, or_assoc (trial (opt prefixSet ∷ lower_part o) stop cs))
+token_open o cs = rw (first_trials (alternatives o) cs, or_none, or_assoc (trial (opt prefix_set ∷ lower_part o) stop cs))
 
 white_by : (b ow s op : Bool) (w pe sp : ℕ) → (b ≡ true → s ≡ false)
     → or_zero (or_else (cond (not b) (up (cond ow (some w) none)) none) (or_else (or_else (cond s (up (cond op (some pe) none)) none) none) (some sp)))

@@ -24,9 +24,9 @@ show_item (kind Other) = "(no notation)"
 show_item letter = "\\p{L}"
 show_item non_white = "\\S"
 
-abbrev showAll {ℓ} : {A : Type ℓ} → (A → String) → List A → String
-showAll f [] = ""
-showAll f (x ∷ xs) = f x ++ showAll f xs
+abbrev show_all {ℓ} : {A : Type ℓ} → (A → String) → List A → String
+show_all f [] = ""
+show_all f (x ∷ xs) = f x ++ show_all f xs
 
 -- with a bar between each two
 abbrev bars : List String → String
@@ -36,8 +36,8 @@ bars (w ∷ v ∷ ws) = w ++ ("|" ++ bars (v ∷ ws))
 
 abbrev show_set : Set → String
 show_set (just i) = show_item i
-show_set (among is) = "[" ++ (showAll show_item is ++ "]")
-show_set (except is) = "[^" ++ (showAll show_item is ++ "]")
+show_set (among is) = "[" ++ (show_all show_item is ++ "]")
+show_set (except is) = "[^" ++ (show_all show_item is ++ "]")
 
 abbrev show_piece : Piece → String
 show_piece (one s) = show_set s
@@ -50,7 +50,7 @@ show_piece (any_case? ws vs) = "(?i:" ++ (bars ws ++ ")?")
 show_piece (thirds s) = show_set s ++ "{((n - 1) mod 3) + 1 of n}"
 
 abbrev show : List (List Piece) → String
-show rs = bars (map (showAll show_piece) rs)
+show rs = bars (map (show_all show_piece) rs)
 
 -- the o200k_base pattern of the public tiktoken sources
 abbrev pub published : String

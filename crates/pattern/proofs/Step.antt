@@ -11,34 +11,34 @@ use Rattle.classes.specs.declared.Class.{Class}
 use Rattle.classes.specs.declared.Class.TheVariants.{Upper, Lower, Caseless, Mark, Number, Whitespace, Other}
 use Rattle.pattern.specs.Regex.{holds, run, spells}
 use Rattle.pattern.specs.declared.Options.{Options}
-use Rattle.pattern.specs.Pattern.{suffixes, long_s, upperish as upperSet, lowerish as lowerSet, number as numberSet, white as whiteSet, punct as punctSet, newline as newlineSet, prefix as prefixSet, tail as tailSet}
+use Rattle.pattern.specs.Pattern.{suffixes, long_s, upperish as upper_set, lowerish as lower_set, number as number_set, white as white_set, punct as punct_set, newline as newline_set, prefix as prefix_set, tail as tail_set}
 use Rattle.pattern.proofs.Trial.{opens}
 use Rattle.pattern.proofs.Runs.{last_in, after}
 
 -- the sets as tests, and what they say of a class
 abbrev pub upperish : ℕ → Bool
-upperish = holds upperSet
+upperish = holds upper_set
 
 abbrev pub lowerish : ℕ → Bool
-lowerish = holds lowerSet
+lowerish = holds lower_set
 
 abbrev pub number : ℕ → Bool
-number = holds numberSet
+number = holds number_set
 
 abbrev pub white : ℕ → Bool
-white = holds whiteSet
+white = holds white_set
 
 abbrev pub punct : ℕ → Bool
-punct = holds punctSet
+punct = holds punct_set
 
 abbrev pub newline : ℕ → Bool
-newline = holds newlineSet
+newline = holds newline_set
 
 abbrev pub prefix : ℕ → Bool
-prefix = holds prefixSet
+prefix = holds prefix_set
 
 abbrev pub tail : Bool → ℕ → Bool
-tail b = holds (tailSet b)
+tail b = holds (tail_set b)
 
 abbrev pub is : ℕ → ℕ → Bool
 is a c = eqb c a
