@@ -81,6 +81,7 @@ fn put_refused(number: u64, place: u64, out: &mut [u8]) -> usize
 }
 
 // Puts a sheet's listing at the front of `out`, and answers its length.
+#[tactic(auto, using(crate::proofs::Listed::when_long, crate::proofs::Listed::refused_fits))]
 pub fn listing(sheet: &[u8], out: &mut [u8; ROOM]) -> usize
     ensures prefix_len { IsPrefixLen result out.new }
     ensures value { (result ≡ length (listing sheet.now)) × (out.new ≡ on_front (listing sheet.now) out.old) }

@@ -2,22 +2,13 @@
 use Rattle.std.proofs.Common.{length, sym, ap, ap₂, ◌∙◌, arith}
 use lib.Seq.{length-take-le}
 use Rattle.listing.specs.Listing.{on_front, refused_line, ends_lines}
-use Rattle.listing.proofs.Listed.{when_long, when_cut, when_refused, refused_fits, ends_fit, Whole, whole, refused}
+use Rattle.listing.proofs.Listed.{when_cut, when_refused, ends_fit, Whole, whole, refused}
 use Rattle.listing.proofs.listing.Goals as goal
 use Rattle.listing.proofs.listing.Goals.{In-Ends}
 
-pub put_refused-requires : goal.put_refused-requires
-put_refused-requires c = omega (arith, refused_fits 2 65536 (omega arith) (omega arith))
-
-pub returns-then-sheet-gt-SHEET_LIMIT-clause-value : goal.returns-then-sheet-gt-SHEET_LIMIT-clause-value
-returns-then-sheet-gt-SHEET_LIMIT-clause-value c =
-    let a = c.args in
-    let e = when_long a.sheet.now c.if-sheet-gt-SHEET_LIMIT.true in
-    (c.put_refused.ensures.0 ∙ ap length (sym e), c.put_refused.ensures.1 ∙ ap (λ w. on_front w a.out.now) (sym e))
-
 -- the whole sheet is cut
 cut : (c : In-Ends) → Whole c.args.sheet.now c.fill-f.new.ends c.in-Ends.count
-cut c = whole c.o200k.ensures c.args.sheet.now _ (omega (arith, c.if-sheet-gt-SHEET_LIMIT.false)) c.in-Ends.ensures.0 c.in-Ends.ensures.1
+cut c = whole c.o200k.ensures c.args.sheet.now _ (omega arith) c.in-Ends.ensures.0 c.in-Ends.ensures.1
 
 pub slice_bounds-ends-end : goal.slice_bounds-ends-end
 slice_bounds-ends-end c = (cut (goal.at.slice_bounds-ends-end c).In-Ends).within
@@ -28,21 +19,18 @@ slice_bounds-put_ends-end c = let h = cut (goal.at.slice_bounds-put_ends-end c).
 pub put_ends-requires : goal.put_ends-requires
 put_ends-requires c =
     let h = cut (goal.at.put_ends-requires c).In-Ends in
-    omega (arith, ap (λ es. length (ends_lines es)) h.all, ends_fit _ c.if-sheet-gt-SHEET_LIMIT.false h.pass)
+    omega (arith, ap (λ es. length (ends_lines es)) h.all, ends_fit _ (omega arith) h.pass)
 
 pub returns-in-Ends-clause-value : goal.returns-in-Ends-clause-value
 returns-in-Ends-clause-value c =
     let h = cut (goal.at.returns-in-Ends-clause-value c).In-Ends in
     let a = c.args in
-    let e = ap ends_lines h.all ∙ sym (when_cut a.sheet.now c.if-sheet-gt-SHEET_LIMIT.false h.pass) in
+    let e = ap ends_lines h.all ∙ sym (when_cut a.sheet.now (omega arith) h.pass) in
     (c.put_ends.ensures.0 ∙ ap length e, c.put_ends.ensures.1 ∙ ap (λ w. on_front w a.out.now) e)
-
-pub put_refused-requires-in-Refused : goal.put_refused-requires-in-Refused
-put_refused-requires-in-Refused c = omega (arith, refused_fits c.number.result c.place.result (omega arith) (omega arith))
 
 pub returns-in-Refused-clause-value : goal.returns-in-Refused-clause-value
 returns-in-Refused-clause-value c =
     let a = c.args in
     let k = refused c.o200k.ensures a.sheet.now _ c.in-Refused.ensures.0 in
-    let e = ap₂ refused_line c.number.ensures c.place.ensures ∙ sym (when_refused a.sheet.now c.if-sheet-gt-SHEET_LIMIT.false k) in
+    let e = ap₂ refused_line c.number.ensures c.place.ensures ∙ sym (when_refused a.sheet.now (omega arith) k) in
     (c.put_refused-in-Refused.ensures.0 ∙ ap length e, c.put_refused-in-Refused.ensures.1 ∙ ap (λ w. on_front w a.out.now) e)

@@ -19,8 +19,8 @@ fits : (n p : ℕ) (out : List ℕ) → length (refused_line n p) ≤ length out
 fits n p out h = subst (λ l. length l ≤ length out) (sym (pieces n p)) h
 
 pub put-at-requires : goal.put-at-requires
-unfolding number
-put-at-requires c = omega (arith, length-append (number c.args.number) (place c.args.place), fits c.args.number c.args.place c.args.out.now c.requires)
+unfolding refused_line
+put-at-requires c = omega (arith, simp length-append at c.requires)
 
 pub put_line-requires : goal.put_line-requires
 unfolding number place
