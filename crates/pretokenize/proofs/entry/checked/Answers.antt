@@ -9,31 +9,31 @@ use Rattle.pretokenize.proofs.Checks.{bad_is, valid_is, fails_1, fails_2, fails_
 use Rattle.pretokenize.proofs.entry.checked.Goals as goal
 
 pub returns-then-o-gt2 : goal.returns-then-o-gt2
-returns-then-o-gt2 c = sym (fails_1 _ _ _ c.if-o-gt2.true)
+returns-then-o-gt2 c = sym (fails_1 _ _ _ (omega (arith, c.if-o-gt2.true)))
 
 pub returns-then-text-gt-LIMIT : goal.returns-then-text-gt-LIMIT
-returns-then-text-gt-LIMIT c = sym (fails_2 _ _ _ c.if-o-gt2.false c.if-text-gt-LIMIT.true)
+returns-then-text-gt-LIMIT c = sym (fails_2 _ _ _ (omega (arith, c.if-o-gt2.false)) (omega (arith, c.if-text-gt-LIMIT.true)))
 
 pub returns-in-BadAt : goal.returns-in-BadAt
 returns-in-BadAt c =
     let h = bad_is _ (sym c.in-BadAt.is ∙ c.check-c.ensures) in
-    ap (fails 3) h.0 ∙ sym (fails_3 _ _ _ c.if-o-gt2.false c.if-text-gt-LIMIT.false h.1)
+    ap (fails 3) h.0 ∙ sym (fails_3 _ _ _ (omega (arith, c.if-o-gt2.false)) (omega (arith, c.if-text-gt-LIMIT.false)) h.1)
 
 pub returns-then-start-text : goal.returns-then-start-text
-returns-then-start-text c = sym (fails_4 _ _ _ c.if-o-gt2.false c.if-text-gt-LIMIT.false (valid_is _ (sym c.in-Valid.is ∙ c.check-c.ensures)) c.if-start-text.true)
+returns-then-start-text c = sym (fails_4 _ _ _ (omega (arith, c.if-o-gt2.false)) (omega (arith, c.if-text-gt-LIMIT.false)) (valid_is _ (sym c.in-Valid.is ∙ c.check-c.ensures)) c.if-start-text.true)
 
 pub char_start-first-requires : goal.char_start-first-requires
 char_start-first-requires c = (valid_is _ (sym c.in-Valid.is ∙ c.check-c.ensures), c.if-start-text.false)
 
 pub returns-then-first-start : goal.returns-then-first-start
-returns-then-first-start c = ap (fails 5) c.char_start-first.ensures ∙ sym (fails_5 _ _ _ c.if-o-gt2.false c.if-text-gt-LIMIT.false (valid_is _ (sym c.in-Valid.is ∙ c.check-c.ensures)) c.if-start-text.false (omega (arith, c.char_start-first.ensures, c.if-first-start.true)))
+returns-then-first-start c = ap (fails 5) c.char_start-first.ensures ∙ sym (fails_5 _ _ _ (omega (arith, c.if-o-gt2.false)) (omega (arith, c.if-text-gt-LIMIT.false)) (valid_is _ (sym c.in-Valid.is ∙ c.check-c.ensures)) c.if-start-text.false (omega (arith, c.char_start-first.ensures, c.if-first-start.true)))
 
 pub returns : goal.returns
 returns c =
     let a = c.args in
     sym (accepts _ _ _ (record {
-      mode = c.if-o-gt2.false;
-      small = c.if-text-gt-LIMIT.false;
+      mode = omega (arith, c.if-o-gt2.false);
+      small = omega (arith, c.if-text-gt-LIMIT.false);
       valid = valid_is _ (sym c.in-Valid.is ∙ c.check-c.ensures);
       inside = c.if-start-text.false;
       start = omega (arith, c.char_start-first.ensures, c.if-first-start.false, start_le (chars a.text.now) a.start);
