@@ -21,7 +21,7 @@ class Library:
         common = [ctypes.c_char_p, size, yes, byte, yes, size]
         self._next_end, self._fill = loaded.njuxaleet_next_end, loaded.njuxaleet_fill
         self._next_end.argtypes = [*common, place]
-        self._fill.argtypes = [*common, ctypes.POINTER(ctypes.c_uint32), size, place, place, place]
+        self._fill.argtypes = [*common, ctypes.POINTER(ctypes.c_uint32), size, place, place]
         self._next_end.restype = self._fill.restype = ctypes.c_uint32
 
     def next_end(self, text, options, start):
@@ -33,16 +33,14 @@ class Library:
         """The ends written and the next start. An entry past the count that was written to is a difference in itself."""
         ends = (ctypes.c_uint32 * room)()
         ctypes.memset(ends, UNTOUCHED & 0xFF, 4 * room)
-        count, after, place = (ctypes.c_size_t(UNTOUCHED) for _ in range(3))
-        answers = ctypes.byref(count), ctypes.byref(after), ctypes.byref(place)
-        number = self._fill(text, len(text), *options, start, ends, room, *answers)
+        count, at = ctypes.c_size_t(), ctypes.c_size_t()
+        number = self._fill(text, len(text), *options, start, ends, room, ctypes.byref(count), ctypes.byref(at))
         rest = ends[count.value:]
         if any(entry != UNTOUCHED for entry in rest):
             return 'written past the count', list(ends)
         if number:
-            same = (count.value, after.value) == (0, start)
-            return ('refused', number, place.value) if same else 'a refusal with a count or another start'
-        return (ends[:count.value], after.value) if place.value == 0 else 'a place without a refusal'
+            return ('refused', number, at.value) if count.value == 0 else 'a refusal with a count'
+        return ends[:count.value], at.value
 
     def walk(self, text, options, room):
         """All ends, by fills of the room given."""

@@ -108,6 +108,7 @@ fn char_start(text: &[u8], at: usize) -> usize
 }
 
 // The checks, in their order: the first that fails is the refusal.
+#[tactic(auto, using(crate::proofs::Checks::fails_1, crate::proofs::Checks::fails_2))]
 pub fn checked(text: &[u8], o: Options, start: usize) -> Verdict
     ensures { verdict result ≡ checks o text.now start }
 {

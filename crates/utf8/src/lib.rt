@@ -31,6 +31,7 @@ pub enum Checked {
 }
 
 // Table 3-7 of The Unicode Standard, by its nine ranges of lead bytes.
+#[tactic(auto, using(crate::proofs::Table::lead_c2))]
 fn lead_of(b: u32) -> Lead
     ensures { result ≡ lead_of b }
 {
@@ -162,6 +163,7 @@ fn check_chars(text: &[u8]) -> Checked
 }
 
 // Whether text is valid, or the place of its first ill-formed sequence. Pure ASCII goes by without a character being decoded.
+#[tactic(auto, using(crate::proofs::At::checked_valid, crate::proofs::Place::ascii_valid, crate::proofs::LargestByte::largest_bounds))]
 pub fn check(text: &[u8]) -> Checked
     ensures { result ≡ checked text.now }
 {

@@ -1,7 +1,7 @@
 -- `utf8::lead_of` meets its contract: each arm's tests say which row of `lead_of` holds.
 use Rattle.std.proofs.Common.{sym, arith}
 use Rattle.utf8.specs.Utf8.{lead_of}
-use Rattle.utf8.proofs.Table.{lead_00, lead_c2, lead_e1, lead_ee, lead_f1, lead_none, lead_past}
+use Rattle.utf8.proofs.Table.{lead_00, lead_e1, lead_ee, lead_f1, lead_none, lead_past}
 use Rattle.utf8.proofs.lead_of.Goals as goal
 
 pub returns-in-224 : goal.returns-in-224
@@ -22,9 +22,6 @@ returns-in-244 c = rw c.in-244.is
 
 pub returns-in-0-to-127 : goal.returns-in-0-to-127
 returns-in-0-to-127 c = sym (lead_00 _ (omega arith))
-
-pub returns-in-194-to-223 : goal.returns-in-194-to-223
-returns-in-194-to-223 c = sym (lead_c2 _ (omega arith) (omega arith))
 
 pub returns-in-225-to-236 : goal.returns-in-225-to-236
 returns-in-225-to-236 c = sym (lead_e1 _ (omega arith) (omega arith))
