@@ -4,22 +4,31 @@ use Prim.Native.Nat.{◌+◌, ◌/◌, ◌%◌}
 use native.Mathlib.Omega.{arith}
 use Rattle.pattern.proofs.Step.{number}
 use Rattle.scanners.specs.Scan.{aligned_end}
-use Rattle.scanners.proofs.Ended.{goes}
+use Rattle.scanners.proofs.Ended.{Went, goes}
 use Rattle.scanners.proofs.Digits.{begun, run_room, right_two, right_more}
 use Rattle.scanners.proofs.o200k_family.right_past_two.Goals as goal
+use Rattle.scanners.proofs.o200k_family.right_past_two.Goals.{Start, In-At}
+
+-- the numbers that have been passed over
+one : (c : Start) → Went number c.args.bytes.now 0 c.args.first
+one c = begun _ c.requires.ready.whole c.requires.bytes_value
+
+two : (c : Start) → Went number c.args.bytes.now c.args.first c.args.second
+two c = goes number _ _ (one c).whole c.requires.first_value
+
+three : (c : In-At) → Went number c.args.bytes.now c.args.second c.in-At.third
+three c = goes number _ _ (goes number _ _ (begun _ c.requires.ready.whole c.requires.bytes_value).whole c.requires.first_value).whole (sym c.number_end-d.ensures ∙ c.in-At.is)
 
 pub number_end-d-requires : goal.number_end-d-requires
-number_end-d-requires c = record { lent = c.requires.ready.lent; whole = (goes number _ _ (begun _ c.requires.ready.whole c.requires.bytes_value).whole c.requires.first_value).whole }
+number_end-d-requires c = record { lent = c.requires.ready.lent; whole = (two (goal.at.number_end-d-requires c).Start).whole }
 
 pub count_numbers-requires : goal.count_numbers-requires
-count_numbers-requires c = record { lent = c.requires.ready.lent; whole = (goes number _ _ (goes number _ _ (begun _ c.requires.ready.whole c.requires.bytes_value).whole c.requires.first_value).whole (sym c.number_end-d.ensures ∙ c.in-At.is)).whole }
+count_numbers-requires c = record { lent = c.requires.ready.lent; whole = (three (goal.at.count_numbers-requires c).In-At).whole }
 
 pub aligned-requires : goal.aligned-requires
 aligned-requires c =
-    let one = (begun _ c.requires.ready.whole c.requires.bytes_value) in
-    let two = goes number _ _ one.whole c.requires.first_value in
-    let three = goes number _ _ two.whole (sym c.number_end-d.ensures ∙ c.in-At.is) in
-    omega (arith, c.count_numbers.ensures, run_room number _ _ three.whole, three.past, two.past, one.past)
+    let g = goal.at.aligned-requires c in
+    omega (arith, c.count_numbers.ensures, run_room number _ _ (three g.In-At).whole, (three g.In-At).past, (two g.Start).past, (one g.Start).past)
 
 pub returns-in-At : goal.returns-in-At
 returns-in-At c =
