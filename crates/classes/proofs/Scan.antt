@@ -1,49 +1,38 @@
--- A scan of rows from the front, row by row; and that the rows of the ranges say what the ranges say.
-use Rattle.std.proofs.Common.{◌≡◌, ℕ, suc, ◌+◌, ◌-◌, ◌<◌, ◌≤◌, true, false, List, [], ◌∷◌, length, get_or, drop, sym, refl, ap, ◌∙◌, arith, length-drop, drop-cons, eqb-true}
+-- A scan of rows, row by row; and that the rows of the ranges say what the ranges say.
+use Rattle.std.proofs.Common.{◌≡◌, ℕ, ◌<◌, true, false, List, [], ◌∷◌, ◌++◌, length, slice_index_or, sym, refl, ap, ◌∙◌, arith, eqb-true}
 use Rattle.utf8.specs.Utf8.{within}
-use Rattle.classes.specs.Range.{Range}
+use Rattle.classes.specs.Range.{Range, range}
 use Rattle.classes.specs.Ranges.{ranges}
 use Rattle.classes.specs.Classes.{class_in, class_of, rank, same}
 use Rattle.classes.specs.Rows.{named, rows_of, ranges_of, table, class_at}
 use Rattle.classes.specs.declared.Class.{Class}
 use Rattle.classes.specs.declared.Class.TheVariants.{Upper, Lower, Caseless, Mark, Number, Whitespace, Other}
 
--- what the rows from a place on say of c
-unfoldable pub class_from : List ℕ → ℕ → ℕ → Class → Class
-class_from rows i c k = class_in (ranges_of (drop i rows)) c k
-
-short : (c : ℕ) (k : Class) (l : List ℕ) → length l ≤ 2 → class_in (ranges_of l) c k ≡ k
+-- rows too short for a range
+pub rows_end : (c : ℕ) (k : Class) (l : List ℕ) → length l < 3 → class_in (ranges_of l) c k ≡ k
 unfolding class_in ranges_of
-short c k [] h = refl
-short c k (a ∷ []) h = refl
-short c k (a ∷ z ∷ []) h = refl
-short c k (a ∷ z ∷ j ∷ l) h = absurd (omega arith)
+rows_end c k [] h = refl
+rows_end c k (a ∷ []) h = refl
+rows_end c k (a ∷ z ∷ []) h = refl
+rows_end c k (a ∷ z ∷ j ∷ l) h = absurd (omega arith)
 
 -- a row in front
-pub row_front : (rows : List ℕ) (i : ℕ) → i + 2 < length rows → drop i rows ≡ get_or rows i 0 ∷ get_or rows (i + 1) 0 ∷ get_or rows (i + 2) 0 ∷ drop (i + 3) rows
-row_front rows i h =
-    let e1 : suc i ≡ i + 1 = omega arith in
-    let e2 : suc (i + 1) ≡ i + 2 = omega arith in
-    let e3 : suc (i + 2) ≡ i + 3 = omega arith in
-    drop-cons rows i 0 (omega arith)
-    ∙ ap (λ l. get_or rows i 0 ∷ l) (ap (λ n. drop n rows) e1 ∙ drop-cons rows (i + 1) 0 (omega arith)
-    ∙ ap (λ l. get_or rows (i + 1) 0 ∷ l) (ap (λ n. drop n rows) e2 ∙ drop-cons rows (i + 2) 0 h ∙ ap (λ n. get_or rows (i + 2) 0 ∷ drop n rows) e3))
+row_front : (row rest : List ℕ) → length row ≡ 3 → ranges_of (row ++ rest) ≡ range (slice_index_or row 0 0) (slice_index_or row 1 0) (named (slice_index_or row 2 0)) ∷ ranges_of rest
+unfolding ranges_of
+row_front [] rest h = absurd (omega arith)
+row_front (a ∷ []) rest h = absurd (omega arith)
+row_front (a ∷ z ∷ []) rest h = absurd (omega arith)
+row_front (a ∷ z ∷ j ∷ []) rest h = refl
+row_front (a ∷ z ∷ j ∷ n ∷ l) rest h = absurd (omega arith)
 
-module _ (rows : List ℕ) (i c : ℕ) (k : Class) where
-  pub row_holds : i + 2 < length rows → within (get_or rows i 0) c (get_or rows (i + 1) 0) ≡ true → class_from rows i c k ≡ named (get_or rows (i + 2) 0)
-  unfolding class_from ranges_of class_in
-  row_holds h e = rw (row_front rows i h, e, class_in)
+module _ (row rest : List ℕ) (c : ℕ) (k : Class) where
+  pub row_holds : length row ≡ 3 → within (slice_index_or row 0 0) c (slice_index_or row 1 0) ≡ true → class_in (ranges_of (row ++ rest)) c k ≡ named (slice_index_or row 2 0)
+  unfolding class_in
+  row_holds h e = rw (row_front row rest h, e, class_in)
 
-  pub row_past : i + 2 < length rows → within (get_or rows i 0) c (get_or rows (i + 1) 0) ≡ false → class_from rows i c k ≡ class_from rows (i + 3) c k
-  unfolding class_from ranges_of class_in
-  row_past h e = rw (row_front rows i h, e, class_in)
-
-  pub rows_end : length rows ≤ i + 2 → class_from rows i c k ≡ k
-  unfolding class_from
-  rows_end h = short c k (drop i rows) (omega (arith, length-drop i rows))
-
-pub named_past : (n : ℕ) → 6 ≤ n → Other ≡ named n
-named_past n h = let e : n ≡ suc (suc (suc (suc (suc (suc (n - 6)))))) = omega arith in rw e
+  pub row_past : length row ≡ 3 → within (slice_index_or row 0 0) c (slice_index_or row 1 0) ≡ false → class_in (ranges_of (row ++ rest)) c k ≡ class_in (ranges_of rest) c k
+  unfolding class_in
+  row_past h e = rw (row_front row rest h, e, class_in)
 
 named_rank : (k : Class) → named (rank k) ≡ k
 named_rank Upper = refl

@@ -1,39 +1,40 @@
 -- No two answers satisfy the contract of a public function: the contracts are those that the functions are proved against.
-use Rattle.std.proofs.Common.{◌≡◌, ℕ, Bool, List, sym, refl, ap, ◌∙◌}
+use Rattle.std.proofs.Common.{◌≡◌, ℕ, Bool, sym, refl, ◌∙◌}
+pub use Rattle.utf8.proofs.Unique.{one}
 use Rattle.classes.specs.Classes.{Said, gives, says, answer}
 use Rattle.classes.specs.declared.Class.{Class}
-use Rattle.classes.specs.declared.Asked.{Asked}
-use Rattle.classes.specs.declared.Asked.TheVariants.{Is, NoScalar}
+use Rattle.std.specs.Prelude.{Result, Ok, Err}
+use Rattle.classes.specs.declared.NoScalar.{NoScalar}
 use Rattle.classes.proofs.table.Reads as table
 use Rattle.classes.proofs.rank_of.Reads as rank_of
 use Rattle.classes.proofs.class_at.Reads as class_at
 use Rattle.classes.proofs.class_of.Reads as class_of
+use Rattle.classes.proofs.class_of_scalar.Reads as class_of_scalar
 use Rattle.classes.proofs.is_upper_ascii.Reads as is_upper_ascii
 use Rattle.classes.proofs.is_letter.Reads as is_letter
 use Rattle.classes.proofs.is_digit.Reads as is_digit
 use Rattle.classes.proofs.is_ascii_ws.Reads as is_ascii_ws
 
--- an answer that can be read back from what it says is fixed by it
-pub one : {A B : Type 0} (say : A → B) (back : B → A) → ((x : A) → back (say x) ≡ x) → {x y : A} {b : B} → say x ≡ b → say y ≡ b → x ≡ y
-one say back same {x} {y} p q = sym (same x) ∙ ap back (p ∙ sym q) ∙ same y
+back : Said Class → Result Class NoScalar
+back (gives k) = Ok k
+back (says n place) = Err (record {})
 
-back : Said Class → Asked
-back (gives k) = Is k
-back (says n place) = NoScalar
-
-back_answer : (x : Asked) → back (answer x) ≡ x
+back_answer : (x : Result Class NoScalar) → back (answer x) ≡ x
 unfolding back
-back_answer (Is k) = refl
-back_answer NoScalar = refl
+back_answer (Ok k) = refl
+back_answer (Err _) = refl
 
-pub class_of_one : (κs : _) (a : _) (e e' : _) {x y : Asked} → class_of.Post κs a x e → class_of.Post κs a y e' → x ≡ y
+pub class_of_one : (κs : _) (a : _) (e e' : _) {x y : Result Class NoScalar} → class_of.Post κs a x e → class_of.Post κs a y e' → x ≡ y
 class_of_one κs a e e' p q = one answer back back_answer p q
 
 pub class_at_one : (κs : _) (a : _) (e e' : _) {x y : Class} → class_at.Post κs a x e → class_at.Post κs a y e' → x ≡ y
 class_at_one κs a e e' p q = p ∙ sym q
 
-pub table_one : (κs : _) (a : _) (e e' : _) {x y : List ℕ} → table.Post κs a x e → table.Post κs a y e' → x ≡ y
-table_one κs a e e' p q = p ∙ sym q
+pub table_one : (κs : _) (a : _) (e e' : _) (x y : _) → table.Post κs a x e → table.Post κs a y e' → x.now ≡ y.now
+table_one κs a e e' x y p q = p ∙ sym q
+
+pub class_of_scalar_one : (κs : _) (a : _) (e e' : _) {x y : Class} → class_of_scalar.Post κs a x e → class_of_scalar.Post κs a y e' → x ≡ y
+class_of_scalar_one κs a e e' p q = p ∙ sym q
 
 pub rank_one : (κs : _) (a : _) (e e' : _) {x y : ℕ} → rank_of.Post κs a x e → rank_of.Post κs a y e' → x ≡ y
 rank_one κs a e e' p q = p ∙ sym q

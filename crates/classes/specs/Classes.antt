@@ -1,10 +1,9 @@
 -- The class of a scalar value: by General_Category, then by White_Space, else Other.
-use Rattle.std.specs.Prelude.{ℕ, Bool, true, false, ◌||◌, List, [], ◌∷◌, ◌==◌, nat_le}
+use Rattle.std.specs.Prelude.{ℕ, Bool, true, false, ◌||◌, List, [], ◌∷◌, ◌==◌, nat_le, Result, Ok, Err}
 use Rattle.utf8.specs.Utf8.{pick, within, scalar}
 use Rattle.classes.specs.Range.{Range, range}
 use Rattle.classes.specs.Ranges.{ranges}
-use Rattle.classes.specs.declared.Asked.{Asked}
-use Rattle.classes.specs.declared.Asked.TheVariants.{Is, NoScalar}
+use Rattle.classes.specs.declared.NoScalar.{NoScalar}
 use Rattle.classes.specs.declared.Class.{Class}
 use Rattle.classes.specs.declared.Class.TheVariants.{Upper, Lower, Caseless, Mark, Number, Whitespace, Other}
 
@@ -58,9 +57,9 @@ pub data Said (A : Type 0) : Type 0 where
 unfoldable pub class_said : ℕ → Said Class
 class_said c = pick (scalar c) (gives (class_of c)) (says 6 0)
 
-abbrev pub answer : Asked → Said Class
-answer (Is k) = gives k
-answer NoScalar = says 6 0
+abbrev pub answer : Result Class NoScalar → Said Class
+answer (Ok k) = gives k
+answer (Err _) = says 6 0
 
 -- a byte that is an ASCII character of a class, and one that is an ASCII letter
 abbrev pub ascii_is : Class → ℕ → Bool

@@ -5,8 +5,6 @@ use Rattle.classes.specs.Ranges.{ranges}
 use Rattle.classes.specs.Classes.{class_in, white_space, rank}
 use Rattle.classes.specs.declared.Class.{Class}
 use Rattle.classes.specs.declared.Class.TheVariants.{Upper, Lower, Caseless, Mark, Number, Whitespace, Other}
-use Rattle.classes.specs.declared.Listed.{Listed}
-use Rattle.classes.specs.declared.Listed.TheVariants.{As, Nowhere}
 
 -- the class of a rank
 abbrev pub named : ℕ → Class
@@ -37,8 +35,3 @@ table = rows_of ranges
 unfoldable pub class_at : List ℕ → ℕ → Class
 unfolding ranges_of class_in white_space
 class_at t c = class_in (ranges_of t) c (class_in white_space c Other)
-
--- the class that some rows say, or one that is given
-abbrev pub or_else : Listed → Class → Class
-or_else (As j) k = j
-or_else Nowhere k = k

@@ -2,36 +2,8 @@
 // Nothing is written before the listing is whole, and nothing at all if the sheet could not be read.
 #![tactic(auto)]
 
-ghost use Rattle.io.specs.Counts.{IsPrefixLen};
-
 use listing::{ROOM, SHEET_LIMIT, listing};
-use std::io;
-
-// How many bytes were read, and whether the input was read to its end or the buffer filled.
-#[derive(Clone, Copy)]
-struct Read {
-    len: usize,
-    is_read: bool,
-}
-
-fn read_sheet(input: &mut impl io::Read, sheet: &mut [u8]) -> Read
-    ensures { IsPrefixLen result.len sheet.new }
-{
-    let mut len = 0;
-    while len < sheet.len() {
-        let Ok(n) = input.read(&mut sheet[len..]) else {
-            return Read {
-                len: 0,
-                is_read: false,
-            };
-        };
-        if n == 0 {
-            break;
-        }
-        len += n;
-    }
-    Read { len, is_read: true }
-}
+use support::read_full;
 
 // Tells of trouble on standard error. Where that cannot be written either, there is nobody to tell.
 fn tell(rt: &impl Eprint, trouble: &str) {
@@ -39,6 +11,7 @@ fn tell(rt: &impl Eprint, trouble: &str) {
 }
 
 fn write_listing(rt: &(impl Print + Eprint), sheet: &[u8]) {
+    // Nothing allocates: every listing fits.
     let mut out = [0u8; ROOM];
     let n = listing(sheet, &mut out);
     if rt.write_all(&out[..n]).is_err() {
@@ -47,13 +20,10 @@ fn write_listing(rt: &(impl Print + Eprint), sheet: &[u8]) {
 }
 
 fn main(rt: HostRuntime) {
-    // One byte more than the longest sheet, so that a longer one is seen.
+    // Nothing allocates. One byte more than the longest sheet, so that a longer one is seen.
     let mut sheet = [0u8; SHEET_LIMIT + 1];
-    let r = read_sheet(&mut rt.stdin(), &mut sheet);
-    let n = r.len;
-    if r.is_read {
-        write_listing(&rt, &sheet[..n]);
-    } else {
-        tell(&rt, "cutsheet: the sheet could not be read");
+    match read_full(&mut rt.stdin(), &mut sheet) {
+        Ok(n) => write_listing(&rt, &sheet[..n]),
+        Err(_) => tell(&rt, "cutsheet: the sheet could not be read"),
     }
 }

@@ -1,5 +1,5 @@
 pub mod Decimal
-pub mod Front
+pub mod Adding
 pub mod Lines
 pub mod Listed
 pub mod Unique

@@ -1,4 +1,5 @@
-// The entry points for other languages: numbers and slices alone. Each answers a refusal's number, 0 where there is none.
+// The entry points for other languages, by C's interface: numbers and slices alone, with a count and a place put behind references. Each
+// answers a refusal's number, 0 where there is none.
 #![tactic(auto)]
 
 ghost use Rattle.std.specs.Prelude.{◌≡◌, length};
@@ -6,9 +7,9 @@ ghost use Rattle.classes.specs.Classes.{class_said};
 ghost use Rattle.pattern.specs.Answers.{next_end, fill, fill_list};
 ghost use Rattle.njuxaleet.specs.Exports.{options, end_number, end_place, found_number, fill_place, class_number, class_rank};
 
-use classes::{Asked, class_of, rank_of};
+use classes::{NoScalar, class_of, rank_of};
 use pattern::Options;
-use pretokenize::{Filled, NextEnd, fill, next_end};
+use pretokenize::{NextEnd, fill, next_end};
 
 // Puts the end of the token at `start` into `at`: `start` itself at the end of the text, and on a refusal its place.
 #[unsafe(no_mangle)]
@@ -27,17 +28,12 @@ pub extern "C" fn njuxaleet_next_end(
         digits,
         slash,
     };
-    let n = next_end(text, o, start);
-    match n {
-        NextEnd::At(e) => {
-            *at = e;
-            0
-        }
-        NextEnd::End(p) => {
+    match next_end(text, o, start) {
+        Ok(NextEnd::At(p) | NextEnd::End(p)) => {
             *at = p;
             0
         }
-        NextEnd::Refused(r) => {
+        Err(r) => {
             *at = r.place();
             r.number()
         }
@@ -67,14 +63,13 @@ pub extern "C" fn njuxaleet_fill(
         digits,
         slash,
     };
-    let f = fill(text, o, start, ends);
-    match f {
-        Filled::Ends(n, next) => {
-            *count = n;
-            *at = next;
+    match fill(text, o, start, ends) {
+        Ok(f) => {
+            *count = f.count;
+            *at = f.next;
             0
         }
-        Filled::Refused(r) => {
+        Err(r) => {
             *count = 0;
             *at = r.place();
             r.number()
@@ -87,13 +82,12 @@ pub extern "C" fn njuxaleet_fill(
 pub extern "C" fn njuxaleet_class_of(c: u32, class: &mut u32) -> u32
     ensures { (result ≡ class_number (class_said c)) × (class.new ≡ class_rank (class_said c)) }
 {
-    let a = class_of(c);
-    match a {
-        Asked::Is(k) => {
-            *class = rank_of(k) as u32;
+    match class_of(c) {
+        Ok(k) => {
+            *class = u32::from(rank_of(k));
             0
         }
-        Asked::NoScalar => {
+        Err(NoScalar) => {
             *class = 0;
             6
         }

@@ -1,4 +1,5 @@
-// The static library that C links: each export is the function of its name of njuxaleet, with its clauses.
+// The static library that C links: each export is the function of its name of njuxaleet, with its clauses, since a crate is a library or a
+// static library.
 #![tactic(auto)]
 
 ghost use Rattle.std.specs.Prelude.{◌≡◌, length};

@@ -5,8 +5,8 @@ ghost use Rattle.std.specs.Prelude.{◌≡◌};
 ghost use Rattle.pattern.specs.Pattern.{o200k};
 
 // Contractions yes or no; digit mode 0 (one), 1 (three, from the left), 2 (three, from the right); slash in the tail yes or no.
-// Any other digit mode is refused wherever the options are used.
-#[derive(Clone, Copy)]
+// Any other digit mode is refused wherever the options are used (`fails_1` of pretokenize), so the mode is a number and no enum.
+#[derive(Clone, Copy, Debug, PartialEq, Eq)]
 pub struct Options {
     pub contractions: bool,
     pub digits: u8,

@@ -1,13 +1,10 @@
 -- Past the first token of a run of digits grouped from the right the run is a multiple of three: the next token is three, and one group less is left.
 use Prim.Native.Nat.{ℕ, zero, suc, ◌+◌, ◌-◌, ◌%◌, ◌<◌, ◌≤◌}
-use mathlib.Core.Bool.{Bool, false, cond}
+use mathlib.Core.Bool.{Bool, cond}
 use mathlib.Core.List.{List, [], ◌∷◌}
-use mathlib.Core.Path.{◌≡◌, refl, sym, ◌∙◌, ap, subst}
+use mathlib.Core.Path.{◌≡◌, refl, sym, ◌∙◌, ap}
 use native.Mathlib.Omega.{arith}
-use borrow.Author.Tests.{ne_eqb}
 use lib.ListN.{drop}
-use lib.Dec.{eqb}
-use Rattle.utf8.specs.Utf8.{pick}
 use Rattle.utf8.proofs.Tests.{by_bool}
 use Rattle.classes.specs.Classes.{class_of}
 use Rattle.classes.specs.declared.Class.TheVariants as k
@@ -64,19 +61,9 @@ pub leaves_known : (o : Options) (cs : List ℕ) {l g : ℕ} → Advanced o cs l
 leaves_known o cs {l} {g} a h = next_group o cs (g - 1) (sym a.left ∙ omega arith)
 
 -- a whole group is what digit mode 1 takes
-pub known_token : (o : Options) (cs : List ℕ) {l r g : ℕ} → Known o cs g → 0 < g → Advanced (record { contractions = o.contractions; digits = 1; slash = o.slash }) cs l r → Advanced o cs l (g - 1)
+pub known_token : (o : Options) (cs : List ℕ) {d l r g : ℕ} → Known o cs g → 0 < g → d ≡ 1 → Advanced (record { contractions = o.contractions; digits = d; slash = o.slash }) cs l r → Advanced o cs l (g - 1)
 unfolding group_of
-known_token o cs {l} {r} {g} k h a =
+known_token o cs {d} {l} {r} {g} k h e a =
     let n = k h in
-    let t : token (record { contractions = o.contractions; digits = 1; slash = o.slash }) cs ≡ 3 = number_token _ cs (omega (arith, n.enough)) ∙ omega (arith, n.enough) in
+    let t : token (record { contractions = o.contractions; digits = d; slash = o.slash }) cs ≡ 3 = number_token _ cs (omega (arith, n.enough)) ∙ rw e (omega (arith, n.enough)) in
     record { len = a.len ∙ ap (λ m. span m cs) (t ∙ sym n.three); left = sym n.left }
-
--- the token after so many known groups, and the groups past it
-pub next_known : (o : Options) (cs : List ℕ) (g : ℕ) {d l r n : ℕ} → Known o cs g → d ≡ pick (eqb g 0) o.digits 1 → Advanced (record { contractions = o.contractions; digits = d; slash = o.slash }) cs l r → n ≡ pick (eqb g 0) r (g - 1)
-    → Advanced o cs l n
-next_known o cs zero {d} {l} {r} {n} k e a m = subst (λ x. Advanced o cs l x) (sym m) (subst (λ x. Advanced (record { contractions = o.contractions; digits = x; slash = o.slash }) cs l r) e a)
-next_known o cs (suc g) {d} {l} {r} {n} k e a m =
-    let z : eqb (suc g) 0 ≡ false = ne_eqb (suc g) 0 (λ q. omega arith) in
-    let one : d ≡ 1 = e ∙ ap (λ b. pick b o.digits 1) z in
-    let rest : n ≡ suc g - 1 = m ∙ ap (λ b. pick b r (suc g - 1)) z in
-    subst (λ x. Advanced o cs l x) (sym rest) (known_token o cs k (omega arith) (subst (λ x. Advanced (record { contractions = o.contractions; digits = x; slash = o.slash }) cs l r) one a))

@@ -3,8 +3,8 @@ use Prim.Native.Nat.{ℕ, ◌+◌, ◌-◌, ◌<◌}
 use mathlib.Core.List.{List}
 use mathlib.Core.Path.{◌≡◌, ap, ◌∙◌, sym, subst}
 use native.Mathlib.Omega.{arith}
-use lib.ListN.{length, get_or, take, drop, length-drop}
-use lib.Seq.{drop-drop, get_or-drop}
+use lib.ListN.{length, take, drop, length-drop}
+use lib.Seq.{drop-drop}
 use Rattle.utf8.specs.Utf8.{chars, chars_at, widths}
 use Rattle.utf8.proofs.At.{to_end, chars_to_end}
 use Rattle.utf8.proofs.Chars.{chars_drop}
@@ -12,7 +12,7 @@ use Rattle.utf8.proofs.Place.{On}
 use Rattle.pattern.specs.declared.Options.{Options}
 use Rattle.pattern.specs.Pattern.{token}
 use Rattle.pattern.specs.Answers.{token_end}
-use Rattle.scanners.specs.Place.{Ready, Lent}
+use Rattle.scanners.specs.Place.{Whole}
 use Rattle.scanners.specs.Scan.{span, Known, Advanced}
 use Rattle.pretokenize.proofs.Groups.{leaves_known}
 
@@ -25,13 +25,9 @@ part_length s at = ap length (to_end s at) ∙ length-drop at s
 pub part_some : (s : List ℕ) (at : ℕ) → at < length s → 0 < length (part s at)
 part_some s at h = omega (arith, part_length s at)
 
--- a byte of the part is one of the text, so that the table is lent to the part too
-part_lent : {t : List ℕ} (s : List ℕ) (at : ℕ) → Lent t s → Lent t (part s at)
-part_lent s at e k h = e (at + k) (omega (arith, ap (λ l. get_or l k 0) (to_end s at), get_or-drop at s k 0))
-
-pub part_ready : {t : List ℕ} (s : List ℕ) (at : ℕ) → Lent t s → On s at → Ready t (part s at) 0
+pub part_whole : (s : List ℕ) (at : ℕ) → On s at → Whole (part s at) 0
 unfolding chars_at
-part_ready s at e h = record { lent = part_lent s at e; whole = omega (arith, h.rest, ap widths (chars_to_end s at), part_length s at) }
+part_whole s at h = omega (arith, h.rest, ap widths (chars_to_end s at), part_length s at)
 
 -- past the token in front of it
 pub part_end : (o : Options) (s : List ℕ) (at : ℕ) {n : ℕ} → n ≡ span (token o (chars (part s at))) (chars (part s at)) → at + n ≡ token_end o s at

@@ -1,16 +1,13 @@
 -- Document 01's number and place of each refusal, and its values of each answer of the entry points.
-use Rattle.std.specs.Prelude.{List, ℕ}
+use Rattle.std.specs.Prelude.{List, ℕ, Result, Ok, Err}
 use Rattle.classes.specs.Classes.{Said, gives, says}
 use Rattle.pattern.specs.declared.Options.{Options}
 use Rattle.pattern.specs.Answers.{limit, Found, passes, fails, next_end, Fill}
 use Rattle.pretokenize.specs.declared.entry.Refusal.{Refusal}
 use Rattle.pretokenize.specs.declared.entry.Refusal.TheVariants.{Mode, Long, Damaged, Past, Inside}
-use Rattle.pretokenize.specs.declared.entry.Verdict.{Verdict}
-use Rattle.pretokenize.specs.declared.entry.Verdict.TheVariants as v
 use Rattle.pretokenize.specs.declared.entry.NextEnd.{NextEnd}
-use Rattle.pretokenize.specs.declared.entry.NextEnd.TheVariants as n
+use Rattle.pretokenize.specs.declared.entry.NextEnd.TheVariants.{At, End}
 use Rattle.pretokenize.specs.declared.entry.Filled.{Filled}
-use Rattle.pretokenize.specs.declared.entry.Filled.TheVariants as f
 use Rattle.pretokenize.specs.declared.entry.Walker.{Walker}
 
 abbrev pub number : Refusal → ℕ
@@ -27,19 +24,19 @@ place (Damaged p) = p
 place (Past p) = p
 place (Inside p) = p
 
-abbrev pub verdict : Verdict → Found
-verdict v.Passed = passes
-verdict (v.Refused r) = fails (number r) (place r)
+abbrev pub verdict : Result Unit Refusal → Found
+verdict (Ok _) = passes
+verdict (Err r) = fails (number r) (place r)
 
-abbrev pub said : NextEnd → Said ℕ
-said (n.At e) = gives e
-said (n.End p) = says 0 p
-said (n.Refused r) = says (number r) (place r)
+abbrev pub said : Result NextEnd Refusal → Said ℕ
+said (Ok (At e)) = gives e
+said (Ok (End p)) = says 0 p
+said (Err r) = says (number r) (place r)
 
 -- a refused fill counts 0 and gives the start again
-abbrev pub filled : ℕ → Filled → Fill
-filled start (f.Ends count next) = record { found = passes; count = count; next = next }
-filled start (f.Refused r) = record { found = fails (number r) (place r); count = 0; next = start }
+abbrev pub filled : ℕ → Result Filled Refusal → Fill
+filled start (Ok f) = record { found = passes; count = f.count; next = f.next }
+filled start (Err r) = record { found = fails (number r) (place r); count = 0; next = start }
 
 -- where a token's bytes stand in the caller's text: at the start; of no token, at 0
 abbrev pub place_of : ℕ → Said ℕ → ℕ

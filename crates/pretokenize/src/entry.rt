@@ -1,21 +1,21 @@
 // The entry points: each makes the checks first, in their order, and hands a refusal on whole.
-ghost use Rattle.std.specs.Prelude.{◌≡◌, ◌+◌, ◌-◌, ◌<◌, ◌≤◌, eqb, length};
-ghost use Rattle.utf8.specs.Utf8.{pick, chars, Valid, char_start, within};
-ghost use Rattle.pattern.specs.Answers.{passes, checks, next_end, token_bytes, fill, fill_list};
-ghost use Rattle.scanners.specs.Place.{Ready, Lent};
+ghost use Rattle.std.specs.Prelude.{◌≡◌, ◌+◌, ◌<◌, ◌≤◌, length};
+ghost use Rattle.utf8.specs.Utf8.{chars, Valid, char_start, within};
+ghost use Rattle.pattern.specs.Answers.{checks, next_end, token_bytes, fill, fill_list};
+ghost use Rattle.scanners.specs.Place.{Whole};
 ghost use Rattle.scanners.specs.Scan.{Known, Advanced};
+ghost use Rattle.pretokenize.specs.declared.entry.Refusal.TheVariants.{Damaged};
 ghost use Rattle.pretokenize.specs.Entry.{number, place, verdict, said, filled, token_place, step_end, moved_by, moved};
 
-use classes::table;
 use pattern::Options;
 use scanners::{Advance, advance_pos};
-use utf8::{Checked, byte_at, check, largest, within};
+use utf8::{BadAt, byte_at, check, within};
 
 // The longest text that is taken, in bytes.
 const LIMIT: usize = 1048576;
 
 // Why a call is refused, with the place where it depends on the call.
-#[derive(Clone, Copy)]
+#[derive(Clone, Copy, Debug, PartialEq, Eq)]
 pub enum Refusal {
     Mode,
     Long,
@@ -25,7 +25,7 @@ pub enum Refusal {
 }
 
 impl Refusal {
-    // The number of the refusal in document 01's table.
+    // The number of the refusal in document 01's table, which other languages are given too.
     pub fn number(self) -> u32
         ensures { result ≡ number self }
     {
@@ -38,53 +38,51 @@ impl Refusal {
         }
     }
 
-    // The place that the table gives with it.
+    // The place that the table gives with it, for other languages too.
     pub fn place(self) -> usize
         ensures { result ≡ place self }
     {
         match self {
             Refusal::Mode => 0,
             Refusal::Long => LIMIT,
-            Refusal::Damaged(p) => p,
-            Refusal::Past(p) => p,
-            Refusal::Inside(p) => p,
+            Refusal::Damaged(p) | Refusal::Past(p) | Refusal::Inside(p) => p,
         }
     }
 }
 
-// That a call passes, or why it is refused.
-#[derive(Clone, Copy)]
-pub enum Verdict {
-    Passed,
-    Refused(Refusal),
+impl From<BadAt> for Refusal {
+    ghost from_gives = { λ bad r. r ≡ Damaged bad.0 };
+
+    fn from(bad: BadAt) -> Refusal {
+        Refusal::Damaged(bad.0)
+    }
 }
 
-// Where a token ends; that the text has ended, with its length; or why the call is refused.
-#[derive(Clone, Copy)]
+// Where a token ends; or that the text has ended, with its length.
+#[derive(Clone, Copy, Debug, PartialEq, Eq)]
 pub enum NextEnd {
     At(usize),
     End(usize),
-    Refused(Refusal),
 }
 
-// How many ends were written, and where the next token begins; or why the call is refused.
-#[derive(Clone, Copy)]
-pub enum Filled {
-    Ends(usize, usize),
-    Refused(Refusal),
+// How many ends were written, and where the next token begins.
+#[derive(Clone, Copy, Debug, PartialEq, Eq)]
+pub struct Filled {
+    pub count: usize,
+    pub next: usize,
 }
 
 // A walk of a text: its options, and where its next token begins.
-#[derive(Clone, Copy)]
+#[derive(Clone, Copy, Debug, PartialEq, Eq)]
 pub struct Walker {
     pub options: Options,
     pub at: usize,
 }
 
 // What a step of a walk answers, and the walker after it.
-#[derive(Clone, Copy)]
+#[derive(Clone, Copy, Debug, PartialEq, Eq)]
 pub struct Step {
-    pub answer: NextEnd,
+    pub answer: Result<NextEnd, Refusal>,
     pub walker: Walker,
 }
 
@@ -92,181 +90,133 @@ pub struct Step {
 fn continues(b: u8) -> bool
     ensures { result ≡ within 0x80 b 0xbf }
 {
-    within(0x80, b as u32, 0xbf)
+    within(0x80, u32::from(b), 0xbf)
 }
 
 // The place of the first byte of the character that a place of a checked text is in.
+#[tactic(auto, using(utf8::proofs::Place::continues_at, utf8::proofs::Place::start_back, utf8::proofs::Place::start_le))]
 fn char_start(text: &[u8], at: usize) -> usize
     requires { Valid text.now × (at ≤ length text.now) }
     ensures { result ≡ char_start (chars text.now) at }
 {
-    let mut i = at;
-    while continues(byte_at(text, i)) {
-        i -= 1;
+    for i in (1..=at).rev() {
+        if !continues(byte_at(text, i)) {
+            return i;
+        }
     }
-    i
+    0
 }
 
-// The checks, in their order: the first that fails is the refusal.
-#[tactic(auto, using(crate::proofs::Checks::fails_1, crate::proofs::Checks::fails_2))]
-pub fn checked(text: &[u8], o: Options, start: usize) -> Verdict
+// The checks, in their order: the first that fails is the refusal. Here and below the text, the options and the start stand apart, as
+// the documents and the C interface name them.
+#[tactic(auto, using(crate::proofs::Checks::rows))]
+pub fn checked(text: &[u8], o: Options, start: usize) -> Result<(), Refusal>
     ensures { verdict result ≡ checks o text.now start }
 {
     if o.digits > 2 {
-        return Verdict::Refused(Refusal::Mode);
+        return Err(Refusal::Mode);
     }
     if text.len() > LIMIT {
-        return Verdict::Refused(Refusal::Long);
+        return Err(Refusal::Long);
     }
-    let c = check(text);
-    match c {
-        Checked::BadAt(p) => return Verdict::Refused(Refusal::Damaged(p)),
-        Checked::Valid => {}
-    }
+    check(text)?;
     if start > text.len() {
-        return Verdict::Refused(Refusal::Past(text.len()));
+        return Err(Refusal::Past(text.len()));
     }
     let first = char_start(text, start);
     if first < start {
-        return Verdict::Refused(Refusal::Inside(first));
+        return Err(Refusal::Inside(first));
     }
-    Verdict::Passed
+    Ok(())
 }
 
-// The digit mode for the next token where so many whole groups of three digits are known to stand: one of them is what mode 1 takes.
-fn mode_for(mode: u8, groups: usize) -> u8
-    ensures { result ≡ pick (eqb groups 0) mode 1 }
-{
-    if groups == 0 { mode } else { 1 }
-}
-
-// The groups known past that token.
-fn groups_past(groups: usize, left: usize) -> usize
-    ensures { result ≡ pick (eqb groups 0) left (groups - 1) }
-{
-    if groups == 0 { left } else { groups - 1 }
-}
-
-// The token in front of some checked text, where so many whole groups of three digits are known to stand there.
-fn next_token(t: &[u32], bytes: &[u8], o: Options, groups: usize) -> Advance
-    requires ready { Ready t.now bytes.now 0 }
+// The token in front of some checked text, where so many whole groups of three digits are known to stand there: one of them is what
+// digit mode 1 takes. A count of 0 says all that None would: that none is known.
+fn next_token(bytes: &[u8], o: Options, groups: usize) -> Advance
+    requires whole { Whole bytes.now 0 }
     requires bytes_nonzero { 0 < length bytes.now }
     requires known { Known o (chars bytes.now) groups }
     ensures { Advanced o (chars bytes.now) result.len result.groups }
 {
-    let by = Options {
-        contractions: o.contractions,
-        digits: mode_for(o.digits, groups),
-        slash: o.slash,
-    };
-    let a = advance_pos(t, bytes, by);
+    let digits = if groups > 0 { 1 } else { o.digits };
+    let a = advance_pos(bytes, Options { digits, ..o });
     Advance {
         len: a.len,
-        groups: groups_past(groups, a.groups),
+        groups: if groups > 0 { groups - 1 } else { a.groups },
     }
-}
-
-// The ends of the tokens from an accepted start on.
-fn fill_from(t: &[u32], text: &[u8], o: Options, start: usize, ends: &mut [u32]) -> Filled
-    requires lent { Lent t.now text.now }
-    requires start_value { checks o text.now start ≡ passes }
-    ensures { (filled start result ≡ fill o text.now start (length ends.old)) × (ends.new ≡ fill_list o text.now start ends.old) }
-{
-    let mut count = 0;
-    let mut at = start;
-    let mut groups = 0;
-    while count < ends.len() && at < text.len() {
-        let a = next_token(t, &text[at..], o, groups);
-        at += a.len;
-        groups = a.groups;
-        ends[count] = at as u32;
-        count += 1;
-    }
-    Filled::Ends(count, at)
-}
-
-// The same with the class table, which is made only for a text with a character outside ASCII.
-fn fill_checked(text: &[u8], o: Options, start: usize, ends: &mut [u32]) -> Filled
-    requires { checks o text.now start ≡ passes }
-    ensures { (filled start result ≡ fill o text.now start (length ends.old)) × (ends.new ≡ fill_list o text.now start ends.old) }
-{
-    if largest(text) < 0x80 {
-        let none = [0u32; 1];
-        return fill_from(&none, text, o, start, ends);
-    }
-    let t = table();
-    fill_from(&t, text, o, start, ends)
 }
 
 // The ends of the tokens from a start on, as many as there is room and text for. On a refusal `ends` stays as it was.
-pub fn fill(text: &[u8], o: Options, start: usize, ends: &mut [u32]) -> Filled
+pub fn fill(text: &[u8], o: Options, start: usize, ends: &mut [u32]) -> Result<Filled, Refusal>
     ensures { (filled start result ≡ fill o text.now start (length ends.old)) × (ends.new ≡ fill_list o text.now start ends.old) }
 {
-    let verdict = checked(text, o, start);
-    match verdict {
-        Verdict::Refused(r) => Filled::Refused(r),
-        Verdict::Passed => fill_checked(text, o, start, ends),
+    checked(text, o, start)?;
+    let mut at = start;
+    let mut groups = 0;
+    for (count, end) in ends.iter_mut().enumerate() {
+        if at == text.len() {
+            return Ok(Filled { count, next: at });
+        }
+        let a = next_token(&text[at..], o, groups);
+        at += a.len;
+        groups = a.groups;
+        *end = at as u32;
     }
+    Ok(Filled {
+        count: ends.len(),
+        next: at,
+    })
 }
 
 // The end of the token at a start, that the text has ended there, or the refusal: what a fill with room for one end finds.
-pub fn next_end(text: &[u8], o: Options, start: usize) -> NextEnd
+pub fn next_end(text: &[u8], o: Options, start: usize) -> Result<NextEnd, Refusal>
     ensures { said result ≡ next_end o text.now start }
 {
     let mut one = [0u32; 1];
-    let f = fill(text, o, start, &mut one);
-    match f {
-        Filled::Refused(r) => NextEnd::Refused(r),
-        Filled::Ends(_, next) => {
-            if next == start {
-                return NextEnd::End(start);
-            }
-            NextEnd::At(next)
-        }
+    let f = fill(text, o, start, &mut one)?;
+    if f.next == start {
+        return Ok(NextEnd::End(start));
     }
+    Ok(NextEnd::At(f.next))
 }
 
 // The bytes of the token at a start, the caller's own; none at the end of the text or on a refusal.
+#[tactic(auto, using(pattern::proofs::Edges::next_in), unfolding(pattern::specs::Answers::token_bytes, crate::specs::Entry::token_place))]
 pub fn token(text: &[u8], o: Options, start: usize) -> &[u8]
     ensures { (result.now ≡ token_bytes o text.now start) × (result.ref_ptr ≡ (text.entry.ref_ptr.0, token_place o text.now start + text.entry.ref_ptr.1)) }
 {
-    let n = next_end(text, o, start);
-    match n {
-        NextEnd::At(e) => &text[start..e],
-        NextEnd::End(_) => &text[0..0],
-        NextEnd::Refused(_) => &text[0..0],
-    }
-}
-
-// A walker after an answer: at the token's end; where it stood, at the end of the text or on a refusal.
-fn moved_by(w: Walker, answer: NextEnd) -> Walker
-    ensures { result ≡ moved_by w (said answer) }
-{
-    let o = w.options;
-    match answer {
-        NextEnd::At(e) => Walker { options: o, at: e },
-        NextEnd::End(_) => w,
-        NextEnd::Refused(_) => w,
+    match next_end(text, o, start) {
+        Ok(NextEnd::At(e)) => &text[start..e],
+        Ok(NextEnd::End(_)) | Err(_) => &text[0..0],
     }
 }
 
 impl Walker {
+    // The walker after an answer: at the token's end; where it stood, at the end of the text or on a refusal.
+    fn moved_by(self, answer: Result<NextEnd, Refusal>) -> Walker
+        ensures { result ≡ moved_by self (said answer) }
+    {
+        match answer {
+            Ok(NextEnd::At(at)) => Walker { at, ..self },
+            Ok(NextEnd::End(_)) | Err(_) => self,
+        }
+    }
+
     // One token on: the answer of `next_end` at the walker's place, and the walker at the token's end; at the end of the text or on
     // a refusal it comes back unmoved.
     pub fn step(self, text: &[u8]) -> Step
         ensures { (said result.answer ≡ step_end self text.now) × (result.walker ≡ moved self text.now) }
     {
-        let o = self.options;
-        let answer = next_end(text, o, self.at);
-        let walker = moved_by(self, answer);
+        let answer = next_end(text, self.options, self.at);
+        let walker = self.moved_by(answer);
         Step { answer, walker }
     }
 
-    // The same step, with the walker lent and moved in place.
-    pub fn step_in_place(&mut self, text: &[u8]) -> NextEnd
+    // The same step, with the walker lent and moved in place: callers have both forms.
+    pub fn step_in_place(&mut self, text: &[u8]) -> Result<NextEnd, Refusal>
         ensures { (said result ≡ step_end self.old text.now) × (self.new ≡ moved self.old text.now) }
     {
-        let s = Walker::step(*self, text);
+        let s = self.step(text);
         *self = s.walker;
         s.answer
     }

@@ -1,5 +1,5 @@
 -- The choice by the first characters, from what the tests of a byte or of a class say.
-use Prim.Native.Nat.{ℕ, ◌≤◌}
+use Prim.Native.Nat.{ℕ, ◌+◌, ◌≤◌}
 use mathlib.Core.Bool.{Bool, true, false, ◌||◌ as or}
 use mathlib.Core.List.{List, []}
 use mathlib.Core.Path.{◌≡◌, refl, sym, ◌∙◌, ap}
@@ -15,11 +15,11 @@ use Rattle.classes.proofs.Scan.{same_is}
 use Rattle.pattern.proofs.Step.{is_wordy, is_number, is_white, newline, is}
 use Rattle.pattern.proofs.Sets.{newline_white, newline_is_not_space, space_white}
 use Rattle.scanners.specs.Place.{Stands}
-use Rattle.scanners.specs.Scan.{moved}
+use Rattle.scanners.specs.Scan.{come, moved}
 use Rattle.scanners.specs.Start.{or_start, prefixed_start, space_before, space_start, after_space, first_start, start_of}
 use Rattle.scanners.specs.declared.o200k_family.CaseState.{CaseState}
 use Rattle.scanners.specs.declared.o200k_family.CaseState.TheVariants.{U, L}
-use Rattle.scanners.specs.declared.o200k_family.Turn.TheVariants.{Go}
+use Rattle.std.specs.Prelude.{None}
 use Rattle.scanners.specs.declared.o200k_family.Start.TheVariants as start
 use Rattle.scanners.proofs.Ascii.{lower_is}
 use Rattle.scanners.proofs.Bytes.{newline_ascii}
@@ -39,13 +39,13 @@ plain_wordy k.Whitespace l p = refl
 plain_wordy k.Other l p = refl
 
 -- a letter of ASCII enters a letter run
-letter_moves : (j : Class) (u : Bool) → is_letter j ≡ true → Plain j → same k.Upper j ≡ u → (e : ℕ) → Go e (pick u (U 0) L) ≡ moved j (U 0) e
-letter_moves j true l p q e = sym (ap (λ i. moved i (U 0) e) (same_is k.Upper j q))
-letter_moves j false l p q e = sym (ap (λ i. moved i (U 0) e) (lower_is j l q p))
+letter_moves : (j : Class) (u : Bool) → is_letter j ≡ true → Plain j → same k.Upper j ≡ u → (e : ℕ) → come e (pick u (U None) L) ≡ moved j (U None) e
+letter_moves j true l p q e = sym (ap (λ i. moved i (U None) e) (same_is k.Upper j q))
+letter_moves j false l p q e = sym (ap (λ i. moved i (U None) e) (lower_is j l q p))
 
 -- past a space
 module _ (j : Class) (e : ℕ) where
-  pub space_letter : (u : Bool) → is_letter j ≡ true → Plain j → same k.Upper j ≡ u → start.Letters e (pick u (U 0) L) ≡ space_start j e
+  pub space_letter : (u : Bool) → is_letter j ≡ true → Plain j → same k.Upper j ≡ u → or_start (come e (pick u (U None) L)) start.One ≡ space_start j e
   unfolding space_start
   space_letter u l p q = ap (λ m. or_start m (space_before j e)) (letter_moves j u l p q e)
 
@@ -69,7 +69,7 @@ space_other k.Other e l p n w = refl
 
 -- in front
 module _ (c : ℕ) (cs : List ℕ) where
-  pub first_go : (j : Class) {f : ℕ} {st : CaseState} → moved j (U 0) (width c) ≡ Go f st → start.Letters f st ≡ first_start j c cs
+  pub first_go : (j : Class) {f : ℕ} {st : CaseState} → moved j (U None) (width c) ≡ come f st → or_start (come f st) start.One ≡ first_start j c cs
   unfolding first_start
   first_go k.Upper q = ap (λ m. or_start m start.One) (sym q)
   first_go k.Lower q = ap (λ m. or_start m start.One) (sym q)
@@ -102,15 +102,16 @@ module _ (c : ℕ) (cs : List ℕ) where
   first_space q = rw (space_white c q, q, by_bool (newline c) (λ t. never (sym q ∙ newline_is_not_space c t)) (λ f. f))
 
 -- an ASCII letter in front, and an ASCII character that may be a prefix
-pub ascii_letter_lem : (b : ℕ) (cs : List ℕ) (u : Bool) → b ≤ 0x7f → is_letter (class_of b) ≡ true → Plain (class_of b) → same k.Upper (class_of b) ≡ u → start.Letters 1 (pick u (U 0) L) ≡ first_start (class_of b) b cs
-ascii_letter_lem b cs u low l p q = first_go b cs (class_of b) (sym (letter_moves (class_of b) u l p q 1 ∙ ap (moved (class_of b) (U 0)) (sym (width_1 b low))))
+pub ascii_letter_lem : (b i : ℕ) (cs : List ℕ) (u : Bool) → i ≡ 1 → b ≤ 0x7f → is_letter (class_of b) ≡ true → Plain (class_of b) → same k.Upper (class_of b) ≡ u
+    → or_start (come i (pick u (U None) L)) start.One ≡ first_start (class_of b) b cs
+ascii_letter_lem b i cs u one low l p q = ap (λ i. or_start (come i (pick u (U None) L)) start.One) one ∙ first_go b cs (class_of b) (sym (letter_moves (class_of b) u l p q 1 ∙ ap (moved (class_of b) (U None)) (sym (width_1 b low))))
 
-pub ascii_number : (b : ℕ) (cs : List ℕ) → b ≤ 0x7f → is_number (class_of b) ≡ true → start.Number 1 ≡ first_start (class_of b) b cs
-ascii_number b cs low q = ap start.Number (sym (width_1 b low)) ∙ first_number b cs (class_of b) q
+pub ascii_number : (b i : ℕ) (cs : List ℕ) → i ≡ 1 → b ≤ 0x7f → is_number (class_of b) ≡ true → start.Number i ≡ first_start (class_of b) b cs
+ascii_number b i cs one low q = ap start.Number one ∙ ap start.Number (sym (width_1 b low)) ∙ first_number b cs (class_of b) q
 
-pub ascii_prefix : (b : ℕ) (cs : List ℕ) → b ≤ 0x7f → is_letter (class_of b) ≡ false → Plain (class_of b) → is_number (class_of b) ≡ false → newline b ≡ false → is 32 b ≡ false
-    → prefixed_start (is_white (class_of b)) 1 cs ≡ first_start (class_of b) b cs
-ascii_prefix b cs low l p n q s = ap (λ i. prefixed_start (is_white (class_of b)) i cs) (sym (width_1 b low)) ∙ first_prefix b cs (class_of b) (plain_wordy (class_of b) l p) n q s
+pub ascii_prefix : (b i : ℕ) (cs : List ℕ) → i ≡ 1 → b ≤ 0x7f → is_letter (class_of b) ≡ false → Plain (class_of b) → is_number (class_of b) ≡ false → newline b ≡ false → is 32 b ≡ false
+    → prefixed_start (is_white (class_of b)) i cs ≡ first_start (class_of b) b cs
+ascii_prefix b i cs one low l p n q s = ap (λ i. prefixed_start (is_white (class_of b)) i cs) one ∙ ap (λ i. prefixed_start (is_white (class_of b)) i cs) (sym (width_1 b low)) ∙ first_prefix b cs (class_of b) (plain_wordy (class_of b) l p) n q s
 
 -- a character outside ASCII is no CR, no LF and no space
 pub high_newline : (c : ℕ) → 0x80 ≤ c → newline c ≡ false
@@ -132,6 +133,6 @@ pub space_none : {cs : List ℕ} → cs ≡ [] → start.One ≡ after_space cs
 unfolding after_space
 space_none e = rw e
 
-pub space_at : (s : List ℕ) (c e : ℕ) → Stands s 1 c e → space_start (class_of c) e ≡ after_space (chars_at s 1)
+pub space_at : (s : List ℕ) (at c e : ℕ) → at ≡ 1 → Stands s at c e → space_start (class_of c) e ≡ after_space (chars_at s at)
 unfolding after_space
-space_at s c e h = sym (ap after_space h.then ∙ ap (space_start (class_of c)) (sym h.wide))
+space_at s at c e q h = sym (ap after_space h.then ∙ ap (λ i. space_start (class_of c) (i + width c)) (sym q) ∙ ap (space_start (class_of c)) (sym h.wide))

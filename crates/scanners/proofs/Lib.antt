@@ -6,6 +6,7 @@ pub mod Ended
 pub mod Case
 pub mod Bytes
 pub mod Letters
+pub mod Lowered
 pub mod Suffix
 pub mod White
 pub mod Digits

@@ -3,6 +3,7 @@ use Prim.Native.Nat.{ℕ, suc, ◌+◌, ◌<◌}
 use mathlib.Core.Bool.{Bool, true, false, cond, ◌&&◌ as and, and-false}
 use mathlib.Core.List.{List, [], ◌∷◌}
 use mathlib.Core.Option.{none}
+use Rattle.std.specs.Prelude.{Option, None, Some}
 use mathlib.Core.Path.{◌≡◌, refl, sym, ◌∙◌, ap, subst}
 use native.Mathlib.Omega.{arith}
 use lib.ListN.{length, drop}
@@ -21,13 +22,11 @@ use Rattle.pattern.proofs.Step.{is_wordy, is_number, is_punct, is_white, wordy, 
 use Rattle.pattern.proofs.Sets.{newline_white}
 use Rattle.pattern.proofs.ClosedForm.{token_is_step}
 use Rattle.scanners.specs.Place.{Whole, Stands}
-use Rattle.scanners.specs.Scan.{span, run_width, suffix_span, suffix_width, ended, moved, turned, case_stop}
+use Rattle.scanners.specs.Scan.{span, run_width, suffix_span, suffix_width, ended, come, moved, turned, case_stop}
 use Rattle.scanners.specs.Start.{or_start, prefixed_start, space_start, after_space, first_start, start_of}
 use Rattle.scanners.specs.declared.o200k_family.CaseState.{CaseState}
 use Rattle.scanners.specs.declared.o200k_family.CaseState.TheVariants.{U}
-use Rattle.scanners.specs.declared.o200k_family.Turn.{Turn}
-use Rattle.scanners.specs.declared.o200k_family.Turn.TheVariants.{Go, Stop}
-use Rattle.scanners.specs.declared.o200k_family.Ended.TheVariants.{At}
+use Rattle.scanners.specs.declared.o200k_family.LetterRun.{LetterRun}
 use Rattle.scanners.specs.declared.o200k_family.Start.{Start}
 use Rattle.scanners.specs.declared.o200k_family.Start.TheVariants as start
 use Rattle.scanners.proofs.Stands.{by_stands}
@@ -61,10 +60,10 @@ module _ (o : Options) (s : List ℕ) (at : ℕ) (w : Whole s at) where
       let c : chars_at s e ≡ drop n (chars_at s at) = ap (chars_at s) q ∙ chars_past s at n in
       ap (λ cs. e + span (f cs) cs) c ∙ omega (arith, q, span_add n (f (drop n (chars_at s at))) (chars_at s at))
 
-  word : {f : ℕ} {st : CaseState} → turned (U 0) at (chars_at s at) ≡ Go f st → Letters o s f st (at + span (word_end o (chars_at s at)) (chars_at s at))
+  word : {f : ℕ} {st : CaseState} → turned (U None) at (chars_at s at) ≡ come f st → Letters o s f st (at + span (word_end o (chars_at s at)) (chars_at s at))
   unfolding word_end
   word {f} {st} q =
-      let g = case_goes s at (U 0) w q in
+      let g = case_goes s at (U None) w q in
       let e : case_stop st f (chars_at s f) ≡ at + span (case_end (chars_at s at)) (chars_at s at) = sym g.stop ∙ case_whole at (chars_at s at) in
       record {
         from = g.whole;
@@ -86,19 +85,19 @@ module _ (o : Options) (s : List ℕ) (at : ℕ) (w : Whole s at) where
 
 -- what a choice is to lead to, and that no run of digits is left open by any but digits
 abbrev pub Leads : Options → List ℕ → Start → Type 0
-Leads o s (start.Letters f st) = Letters o s f st (span (token o (chars s)) (chars s)) × (run number (chars s) ≡ 0)
+Leads o s (start.Letters r) = Letters o s r.end r.state (span (token o (chars s)) (chars s)) × (run number (chars s) ≡ 0)
 Leads o s (start.Punct f) = Punct o s f (span (token o (chars s)) (chars s)) × (run number (chars s) ≡ 0)
 Leads o s start.White = (span (space_end (chars s)) (chars s) ≡ span (token o (chars s)) (chars s)) × (run number (chars s) ≡ 0)
-Leads o s (start.Number f) = (ended number 0 (chars s) ≡ At f) × (token o (chars s) ≡ group_of o.digits (run number (chars s)))
+Leads o s (start.Number f) = (ended number 0 (chars s) ≡ Some f) × (token o (chars s) ≡ group_of o.digits (run number (chars s)))
 Leads o s start.One = (1 ≡ span (token o (chars s)) (chars s)) × (run number (chars s) ≡ 0)
 
 -- a letter run is entered just where a letter or a mark opens it
-enters : (at : ℕ) (cs : List ℕ) {f : ℕ} {st : CaseState} → turned (U 0) at cs ≡ Go f st → opens wordy cs ≡ true
+enters : (at : ℕ) (cs : List ℕ) {f : ℕ} {st : CaseState} → turned (U None) at cs ≡ come f st → opens wordy cs ≡ true
 unfolding turned opens wordy
 enters at [] q = stop_go q
 enters at (c ∷ cs) q = by (class_of c) (at + width c) q
   where
-    by : (j : Class) (e : ℕ) {f : ℕ} {st : CaseState} → moved j (U 0) e ≡ Go f st → is_wordy j ≡ true
+    by : (j : Class) (e : ℕ) {f : ℕ} {st : CaseState} → moved j (U None) e ≡ come f st → is_wordy j ≡ true
     by k.Upper e q = refl
     by k.Lower e q = refl
     by k.Caseless e q = refl
@@ -107,7 +106,7 @@ enters at (c ∷ cs) q = by (class_of c) (at + width c) q
     by k.Whitespace e q = stop_go q
     by k.Other e q = stop_go q
 
-pub wordy_stop : (j : Class) (e : ℕ) → moved j (U 0) e ≡ Stop → is_wordy j ≡ false
+pub wordy_stop : (j : Class) (e : ℕ) → moved j (U None) e ≡ None → is_wordy j ≡ false
 wordy_stop k.Upper e q = stop_go (sym q)
 wordy_stop k.Lower e q = stop_go (sym q)
 wordy_stop k.Caseless e q = stop_go (sym q)
@@ -116,7 +115,7 @@ wordy_stop k.Number e q = refl
 wordy_stop k.Whitespace e q = refl
 wordy_stop k.Other e q = refl
 
-leaves : (at : ℕ) (cs : List ℕ) → turned (U 0) at cs ≡ Stop → opens wordy cs ≡ false
+leaves : (at : ℕ) (cs : List ℕ) → turned (U None) at cs ≡ None → opens wordy cs ≡ false
 unfolding turned opens wordy
 leaves at [] q = refl
 leaves at (c ∷ cs) q = wordy_stop (class_of c) (at + width c) q
@@ -172,16 +171,16 @@ module _ (o : Options) (s : List ℕ) (w : Whole s 0) {c e : ℕ} (h : Stands s 
   no_number q f = ap (run number) whole_is ∙ run_step number c ds ∙ ap (λ b. cond b (suc (run number ds)) 0) (ap is_number q ∙ f)
 
   -- a word from the front
-  letters : {j : Class} {st : CaseState} {f : ℕ} → class_of c ≡ j → is_number j ≡ false → moved j (U 0) (width c) ≡ Go f st → step_by o j c ds ≡ word_end o (c ∷ ds) → Leads o s (start.Letters f st)
+  letters : {j : Class} {st : CaseState} {f : ℕ} → class_of c ≡ j → is_number j ≡ false → moved j (U None) (width c) ≡ come f st → step_by o j c ds ≡ word_end o (c ∷ ds) → Leads o s (or_start (come f st) start.One)
   unfolding chars_at turned
   letters {j} {st} {f} q n m t =
       let i : 0 + width c ≡ width c = omega arith in
-      let g : turned (U 0) 0 (chars_at s 0) ≡ Go f st = ap (turned (U 0) 0) whole_is ∙ ap (moved (class_of c) (U 0)) i ∙ ap (λ j. moved j (U 0) (width c)) q ∙ m in
+      let g : turned (U None) 0 (chars_at s 0) ≡ come f st = ap (turned (U None) 0) whole_is ∙ ap (moved (class_of c) (U None)) i ∙ ap (λ j. moved j (U None) (width c)) q ∙ m in
       let r : 0 + span (word_end o (chars s)) (chars s) ≡ span (token o (chars s)) (chars s) = omega (arith, ap (λ n. span n (chars s)) (token_by q ∙ t ∙ ap (word_end o) (sym whole_is))) in
       (subst (Letters o s f st) r (word o s 0 w g), no_number q n)
 
   -- a word past a prefix
-  prefixed : {j : Class} {st : CaseState} {f : ℕ} → class_of c ≡ j → is_number j ≡ false → turned (U 0) e ds ≡ Go f st → step_by o j c ds ≡ suc (word_end o ds) → Leads o s (start.Letters f st)
+  prefixed : {j : Class} {st : CaseState} {f : ℕ} → class_of c ≡ j → is_number j ≡ false → turned (U None) e ds ≡ come f st → step_by o j c ds ≡ suc (word_end o ds) → Leads o s (or_start (come f st) start.One)
   prefixed {j} {st} {f} q n g t =
       let r : e + span (word_end o ds) ds ≡ span (token o (chars s)) (chars s) = sym (ap (λ n. span n (chars s)) (token_by q ∙ t) ∙ span_first (word_end o ds)) in
       (subst (Letters o s f st) r (word o s e h.whole g), no_number q n)
@@ -206,17 +205,17 @@ module _ (o : Options) (s : List ℕ) (w : Whole s 0) {c e : ℕ} (h : Stands s 
   unfolding chars_at holds step_by
   counted q =
       let t : number c ≡ true = ap is_number q in
-      (sym (ended_at number s 0 true h (sym t)) ∙ ap At wide_is, token_by q ∙ ap (group_of o.digits) (sym (ap (run number) whole_is ∙ run_step number c ds ∙ ap (λ b. cond b (suc (run number ds)) 0) t)))
+      (sym (ended_at number s 0 true h (sym t)) ∙ ap Some wide_is, token_by q ∙ ap (group_of o.digits) (sym (ap (run number) whole_is ∙ run_step number c ds ∙ ap (λ b. cond b (suc (run number ds)) 0) t)))
 
   -- past a prefix: by whether a letter run is entered
   past_prefix : (b : Bool) {j : Class} → class_of c ≡ j → is_number j ≡ false → (opens wordy ds ≡ true → step_by o j c ds ≡ suc (word_end o ds))
       → (opens wordy ds ≡ false → Leads o s (pick b start.White (start.Punct (width c)))) → Leads o s (prefixed_start b (width c) ds)
   unfolding prefixed_start
-  past_prefix b {j} q n f g = subst (λ i. Leads o s (or_start (turned (U 0) i ds) (pick b start.White (start.Punct (width c))))) wide_is (by (turned (U 0) e ds) refl)
+  past_prefix b {j} q n f g = subst (λ i. Leads o s (or_start (turned (U None) i ds) (pick b start.White (start.Punct (width c))))) wide_is (by (turned (U None) e ds) refl)
     where
-      by : (m : Turn) → turned (U 0) e ds ≡ m → Leads o s (or_start m (pick b start.White (start.Punct (width c))))
-      by (Go i st) r = prefixed q n r (f (enters e ds r))
-      by Stop r = g (leaves e ds r)
+      by : (m : Option LetterRun) → turned (U None) e ds ≡ m → Leads o s (or_start m (pick b start.White (start.Punct (width c))))
+      by (Some run) r = prefixed q n r (f (enters e ds r))
+      by None r = g (leaves e ds r)
 
   -- white space, by the tests that its step makes
   white_step : {x y z : Bool} → newline c ≡ x → opens wordy ds ≡ y → and (is 32 c) (opens punct ds) ≡ z
@@ -241,8 +240,8 @@ module _ (o : Options) (s : List ℕ) (w : Whole s 0) {c e : ℕ} (h : Stands s 
   unfolding opens holds
   next_punct g r = ap (opens punct) g.then ∙ ap is_punct r
 
-  next_turn : {d f : ℕ} {j : Class} → Stands s e d f → class_of d ≡ j → turned (U 0) e ds ≡ moved j (U 0) f
-  next_turn g r = sym (turned_at s e (U 0) g (sym r))
+  next_turn : {d f : ℕ} {j : Class} → Stands s e d f → class_of d ≡ j → turned (U None) e ds ≡ moved j (U None) f
+  next_turn g r = sym (turned_at s e (U None) g (sym r))
 
   -- past a space, by the class of the next character
   past_space : {d f : ℕ} → class_of c ≡ k.Whitespace → newline c ≡ false → is 32 c ≡ true → Stands s e d f → (j : Class) → class_of d ≡ j → Leads o s (space_start j f)

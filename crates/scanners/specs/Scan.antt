@@ -1,6 +1,7 @@
 -- What the scanners answer, in the terms of the closed form. Nobody has to believe this file: what `advance_pos` answers is the definition's token.
-use Rattle.std.specs.Prelude.{Bool, true, false, List, [], ◌∷◌, ◌≡◌, ℕ, zero, suc, ◌+◌, ◌-◌, ◌/◌, ◌<◌, ◌≤◌, take}
-use Rattle.std.proofs.Math.Option.{Option, none, some}
+use Rattle.std.specs.Prelude.{Option, None, Some, Bool, true, false, List, [], ◌∷◌, ◌≡◌, ℕ, zero, suc, ◌+◌, ◌-◌, ◌/◌, ◌<◌, ◌≤◌, take}
+use Rattle.std.specs.Bool.{then_some}
+use Rattle.std.proofs.Math.Option.{Option as Last, none, some}
 use Rattle.utf8.specs.Utf8.{pick, width, widths}
 use Rattle.classes.specs.Classes.{class_of, ascii_is}
 use Rattle.classes.specs.declared.Class.{Class}
@@ -12,12 +13,9 @@ use Rattle.pattern.proofs.Runs.{last_in}
 use Rattle.pattern.proofs.Step.{upperish, lowerish, number, white, punct, is_number, is_white, is_punct, group_of, first_fit, suffix_table}
 use Rattle.scanners.specs.declared.o200k_family.Kind.{Kind}
 use Rattle.scanners.specs.declared.o200k_family.Kind.TheVariants.{Number as Numbers, White, Punct}
-use Rattle.scanners.specs.declared.o200k_family.Ended.{Ended}
-use Rattle.scanners.specs.declared.o200k_family.Ended.TheVariants.{At, No}
 use Rattle.scanners.specs.declared.o200k_family.CaseState.{CaseState}
 use Rattle.scanners.specs.declared.o200k_family.CaseState.TheVariants.{U, L}
-use Rattle.scanners.specs.declared.o200k_family.Turn.{Turn}
-use Rattle.scanners.specs.declared.o200k_family.Turn.TheVariants.{Go, Stop}
+use Rattle.scanners.specs.declared.o200k_family.LetterRun.{LetterRun}
 
 -- how many bytes the first n characters take, and the run of a class
 unfoldable pub span : ℕ → List ℕ → ℕ
@@ -38,9 +36,9 @@ in_kind White = white
 in_kind Punct = punct
 
 -- where the first character ends, if it is of the class
-unfoldable pub ended : (ℕ → Bool) → ℕ → List ℕ → Ended
-ended p at [] = No
-ended p at (c ∷ cs) = pick (p c) (At (at + width c)) No
+unfoldable pub ended : (ℕ → Bool) → ℕ → List ℕ → Option ℕ
+ended p at [] = None
+ended p at (c ∷ cs) = then_some (p c) (at + width c)
 
 -- the suffix that stands in front, in bytes; none where contractions are off
 unfoldable pub suffix_span : List ℕ → ℕ
@@ -51,33 +49,37 @@ suffix_width on cs = pick on (suffix_span cs) 0
 
 -- the state past an ASCII letter that opens a letter run
 abbrev pub ascii_state : ℕ → CaseState
-ascii_state b = pick (ascii_is Upper b) (U 0) L
+ascii_state b = pick (ascii_is Upper b) (U None) L
 
--- the state past a character of a class that ends at e
-abbrev pub moved : Class → CaseState → ℕ → Turn
-moved Upper (U last) e = Go e (U last)
-moved Upper L e = Stop
-moved Lower st e = Go e L
-moved Caseless (U last) e = Go e (U e)
-moved Caseless L e = Go e L
-moved Mark (U last) e = Go e (U e)
-moved Mark L e = Go e L
-moved Number st e = Stop
-moved Whitespace st e = Stop
-moved Other st e = Stop
+-- a letter run that has come to e in a state
+abbrev pub come : ℕ → CaseState → Option LetterRun
+come e st = Some (record { end = e; state = st })
 
-unfoldable pub turned : CaseState → ℕ → List ℕ → Turn
-turned st at [] = Stop
+-- where it is past a character of a class that ends at e, unless that ends it
+abbrev pub moved : Class → CaseState → ℕ → Option LetterRun
+moved Upper (U last) e = come e (U last)
+moved Upper L e = None
+moved Lower st e = come e L
+moved Caseless (U last) e = come e (U (Some e))
+moved Caseless L e = come e L
+moved Mark (U last) e = come e (U (Some e))
+moved Mark L e = come e L
+moved Number st e = None
+moved Whitespace st e = None
+moved Other st e = None
+
+unfoldable pub turned : CaseState → ℕ → List ℕ → Option LetterRun
+turned st at [] = None
 turned st at (c ∷ cs) = moved (class_of c) st (at + width c)
 
 -- where the token ends if the letter run ends at a place
 abbrev pub finish : CaseState → ℕ → ℕ
-finish (U zero) at = at
-finish (U (suc last)) at = suc last
+finish (U None) at = at
+finish (U (Some last)) at = last
 finish L at = at
 
 -- where it ends if the run goes on with some characters: past the lower-case part; with none, back to the last caseless letter or mark
-abbrev pub upper_stop : Option ℕ → ℕ → ℕ → List ℕ → ℕ
+abbrev pub upper_stop : Last ℕ → Option ℕ → ℕ → List ℕ → ℕ
 upper_stop none last at cs = finish (U last) (at + run_width upperish cs)
 upper_stop (some n) last at cs = at + span n cs
 
@@ -85,12 +87,12 @@ unfoldable pub case_stop : CaseState → ℕ → List ℕ → ℕ
 case_stop (U last) at cs = upper_stop (last_in upperish lowerish cs) last at cs
 case_stop L at cs = at + run_width lowerish cs
 
--- white space: nl is the end of the last CR or LF, last the start of the last character, 0 where there is none
-abbrev pub white_stop : Bool → ℕ → ℕ → ℕ → ℕ
-white_stop end (suc nl) last at = suc nl
-white_stop true zero last at = at
-white_stop false zero zero at = at
-white_stop false zero (suc last) at = suc last
+-- white space: nl is the end of the last CR or LF, last the start of the last character, 0 where that is the first or there is none
+abbrev pub white_stop : Bool → Option ℕ → ℕ → ℕ → ℕ
+white_stop end (Some nl) last at = nl
+white_stop true None last at = at
+white_stop false None zero at = at
+white_stop false None (suc last) at = suc last
 
 -- whole groups of three that are left of a run of n digits past its first token, by digit mode
 abbrev pub groups : ℕ → ℕ → ℕ

@@ -7,9 +7,7 @@ use native.Mathlib.Omega.{arith}
 use borrow.Author.Tests.{eq-eqb, ne_eqb}
 use lib.ListN.{length, get_or, take, drop, length-drop, drop_of_length-le}
 use lib.Seq.{drop-cons, drop-drop, take_all, get_or-drop}
-use Rattle.utf8.specs.Utf8.{lead_of, decode_as, decode1, chars, decode_at, chars_at, width, valid_length, checked}
-use Rattle.utf8.specs.declared.Decoded.TheVariants.{Char, Bad, End}
-use Rattle.utf8.specs.declared.Checked.TheVariants.{Valid, BadAt}
+use Rattle.utf8.specs.Utf8.{lead_of, decode_as, decode1, chars, decode_at, chars_at, width, valid_length, checked, Char, Bad, End, Sound, BadAt}
 use Rattle.utf8.proofs.Table.{lead_00}
 use Rattle.utf8.proofs.Width.{encode_1}
 use Rattle.utf8.proofs.Says.{Say, decode_says}
@@ -93,6 +91,6 @@ pub checked_bad : (s : List ℕ) (at : ℕ) → valid_length s ≡ at → at < l
 unfolding checked
 checked_bad s at g h = rw (g, ne_eqb at (length s) (λ q. omega arith))
 
-pub checked_valid : (s : List ℕ) → valid_length s ≡ length s → Valid ≡ checked s
+pub checked_valid : (s : List ℕ) → valid_length s ≡ length s → Sound ≡ checked s
 unfolding checked
 checked_valid s g = rw (eq-eqb (valid_length s) (length s) g)

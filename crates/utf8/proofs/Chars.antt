@@ -5,9 +5,7 @@ use mathlib.Core.Path.{◌≡◌, refl, ap, subst}
 use native.Mathlib.Omega.{arith}
 use lib.ListN.{take, drop}
 use lib.Seq.{drop-drop}
-use Rattle.utf8.specs.Utf8.{decode1, chars_from, chars, widths}
-use Rattle.utf8.specs.declared.Decoded.{Decoded}
-use Rattle.utf8.specs.declared.Decoded.TheVariants.{Char, Bad, End}
+use Rattle.utf8.specs.Utf8.{decode1, chars_from, chars, widths, Decoded, Char, Bad, End}
 use Rattle.utf8.proofs.Says.{Say, IsChar, decode_says}
 
 skip : (k : ℕ) (bs : List ℕ) → chars_from k bs ≡ chars (drop k bs)

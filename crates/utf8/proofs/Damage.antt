@@ -6,8 +6,7 @@ use mathlib.Core.Path.{◌≡◌, refl, sym, ◌∙◌, ap}
 use native.Mathlib.Omega.{arith}
 use lib.ListN.{length, take, drop, length-append}
 use lib.Seq.{take_at}
-use Rattle.utf8.specs.Utf8.{decode1, chars, width, widths, valid_length, encode1, encode, scalar}
-use Rattle.utf8.specs.declared.Decoded.TheVariants.{Char, Bad}
+use Rattle.utf8.specs.Utf8.{decode1, chars, width, widths, valid_length, encode1, encode, scalar, Char, Bad}
 use Rattle.utf8.proofs.Width.{widths_encode}
 use Rattle.utf8.proofs.Chars.{char_is, chars_char, by_front}
 use Rattle.utf8.proofs.Inverse.{decode_encode1, scalars, chars_scalars, encode_chars, chars_after}

@@ -7,8 +7,7 @@ use native.Mathlib.Omega.{arith}
 use borrow.Author.Tests.{lt-leb}
 use lib.ListN.{length, get_or, take, drop, length-append, length-drop}
 use lib.Seq.{drop_at, drop-drop, drop-length}
-use Rattle.utf8.specs.Utf8.{lead_of, pick, from3, from4, decode_as, decode1, chars, width, widths, valid_length, Valid, encode1, encode, scalar}
-use Rattle.utf8.specs.declared.Decoded.TheVariants.{Char}
+use Rattle.utf8.specs.Utf8.{lead_of, pick, from3, from4, decode_as, decode1, chars, width, widths, valid_length, Valid, encode1, encode, scalar, Char}
 use Rattle.utf8.proofs.Tests.{by_le, both, in_range, range_true}
 use Rattle.utf8.proofs.Table.{lead_00, lead_c2, lead_e0, lead_e1, lead_ed, lead_ee, lead_f0, lead_f1, lead_f4}
 use Rattle.utf8.proofs.Width.{encode_1, encode_2, encode_3, encode_4, width_1, width_2, width_3, width_4, length_encode1, widths_encode}

@@ -3,8 +3,8 @@ use Prim.Native.Nat.{ℕ, zero, suc, ◌+◌, ◌≤◌, ◌<◌, max}
 use mathlib.Core.List.{List, [], ◌∷◌}
 use mathlib.Core.Path.{◌≡◌, ap, ◌∙◌}
 use native.Mathlib.Omega.{arith}
-use lib.ListN.{length, get_or, drop}
-use lib.Seq.{drop-cons, drop-length}
+use lib.ListN.{length, get_or, drop, drop_of_length-le}
+use lib.Seq.{drop-cons}
 use Rattle.utf8.specs.LargestByte.{largest}
 
 pub largest_bounds : (s : List ℕ) (k : ℕ) → get_or s k 0 ≤ largest s
@@ -18,6 +18,6 @@ pub largest_step : (s : List ℕ) (i : ℕ) → i < length s → largest (drop i
 unfolding largest
 largest_step s i h = let e : suc i ≡ i + 1 = omega arith in ap largest (drop-cons s i 0 h) ∙ ap (λ n. max (get_or s i 0) (largest (drop n s))) e
 
-pub largest_end : (s : List ℕ) → largest (drop (length s) s) ≡ 0
+pub largest_end : (s : List ℕ) (i : ℕ) → length s ≤ i → largest (drop i s) ≡ 0
 unfolding largest
-largest_end s = rw (drop-length s)
+largest_end s i h = rw (drop_of_length-le s h)

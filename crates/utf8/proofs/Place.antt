@@ -9,8 +9,7 @@ use lib.Dec.{ltb}
 use borrow.Author.Tests.{lt-ltb, le-ltb, ltb-false}
 use lib.ListN.{length, get_or, take, drop, length-append, get_or-append, get_or-eq_default}
 use lib.Seq.{get_or-append-add, get_or-append_seam, get_or-drop, drop-drop, drop-append_seam, take-append_seam, take_at}
-use Rattle.utf8.specs.Utf8.{within, decode1, chars, chars_at, width, widths, Valid, char_start, encode1, encode}
-use Rattle.utf8.specs.declared.Decoded.TheVariants.{Char}
+use Rattle.utf8.specs.Utf8.{within, decode1, chars, chars_at, width, widths, Valid, char_start, encode1, encode, Char}
 use Rattle.utf8.proofs.Tests.{by_le, in_range, below, above}
 use Rattle.utf8.proofs.Table.{lead_00}
 use Rattle.utf8.proofs.Width.{by_width, encode_1, encode_2, encode_3, encode_4, width_1, width_2, width_3, width_4, length_encode1, widths_split, widths_encode}

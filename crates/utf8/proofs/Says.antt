@@ -7,10 +7,9 @@ use native.Mathlib.Omega.{arith}
 use borrow.Author.Tests.{le-leb, lt-leb}
 use lib.ListN.{length, get_or, drop}
 use lib.Seq.{drop-cons}
-use Rattle.utf8.specs.Utf8.{lead_of, from2, from3, from4, decode_as, decode1, width, encode1, scalar}
+use Rattle.utf8.specs.Utf8.{lead_of, from2, from3, from4, decode_as, decode1, width, encode1, scalar, Decoded, Char, Bad, End}
+use Rattle.std.specs.Prelude.{Option}
 use Rattle.utf8.specs.declared.Lead.{Lead}
-use Rattle.utf8.specs.declared.Decoded.{Decoded}
-use Rattle.utf8.specs.declared.Decoded.TheVariants.{Char, Bad, End}
 use Rattle.utf8.proofs.Tests.{by_within}
 use Rattle.utf8.proofs.Width.{encode_1, encode_2, encode_3, encode_4, width_1, width_2, width_3, width_4}
 
@@ -152,5 +151,5 @@ decode_says (b ∷ bs) =
     (by_within P 0xf4 b 0xf4 (λ g h. four_says b bs 0x80 0x8f (omega arith) (omega arith) (omega arith) (omega arith) (omega arith) (omega arith))
     (omega arith)))))))))
   where
-    P : Lead → Type 0
+    P : Option Lead → Type 0
     P l = Say (b ∷ bs) (decode_as l b (get_or bs 0 0) (get_or bs 1 0) (get_or bs 2 0))

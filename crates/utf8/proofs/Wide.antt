@@ -5,10 +5,9 @@ use mathlib.Core.List.{List}
 use mathlib.Core.Path.{◌≡◌, sym, ◌∙◌}
 use native.Mathlib.Omega.{arith}
 use lib.ListN.{length, get_or}
-use Rattle.utf8.specs.Utf8.{lead_of, pick, within, from2, from3, from4, decode_as, decode_at}
+use Rattle.utf8.specs.Utf8.{lead_of, pick, within, from2, from3, from4, decode_as, decode_at, Decoded, Char, Bad}
+use Rattle.std.specs.Prelude.{Option}
 use Rattle.utf8.specs.declared.Lead.{Lead}
-use Rattle.utf8.specs.declared.Decoded.{Decoded}
-use Rattle.utf8.specs.declared.Decoded.TheVariants.{Char, Bad}
 use Rattle.utf8.proofs.Tests.{by_within}
 use Rattle.utf8.proofs.At.{decode_some}
 
@@ -24,7 +23,7 @@ guarded true e = e
 guarded false e = absurd (let z : ◌≡◌ {A = ℕ} 0 1 = cc in omega arith)
 
 module _ (b b1 b2 b3 c w : ℕ) where
-  abbrev W : Lead → Type 0
+  abbrev W : Option Lead → Type 0
   W l = decode_as l b b1 b2 b3 ≡ Char c w → Wide b b1 b2 b3 c w
 
   wide2 : b < 0xe0 → from2 b b1 ≡ Char c w → Wide b b1 b2 b3 c w

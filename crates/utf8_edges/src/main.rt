@@ -3,34 +3,21 @@
 // ones, and then what is overlong, a surrogate or past the last value is refused.
 #![tactic(auto)]
 
-ghost use Rattle.std.specs.Prelude.{◌≡◌, ◌≤◌, ◌<◌, length};
+ghost use Rattle.std.specs.Prelude.{◌≤◌, ◌<◌, length, IfSome};
 
 use std::io;
-use utf8::{Checked, Decoded};
+use utf8::{BadAt, Char, NoChar};
 
-// What the rule says of the start of some bytes: the scalar value and the width, which is 0 where they are ill-formed.
-#[derive(Clone, Copy)]
-struct Said {
-    value: u32,
-    width: usize,
-}
-
-fn ill_formed() -> Said
-    ensures { result.width ≡ 0 }
+// The width that a lead byte asks for, by its leading ones.
+fn width_asked(lead: u8) -> Option<usize>
+    ensures { IfSome result (λ w. 0 < w) }
 {
-    Said { value: 0, width: 0 }
-}
-
-// The width that a lead byte asks for, by its leading ones; 0 where it begins nothing. A byte's leading ones are the leading
-// zeros of its complement, which is moved to the top of the 32 bits.
-fn width_asked(lead: u8) -> usize {
-    let ones = u32::leading_zeros((255 - lead) as u32 * 16777216);
-    match ones {
-        0 => 1,
-        2 => 2,
-        3 => 3,
-        4 => 4,
-        _ => 0,
+    match lead.leading_ones() {
+        0 => Some(1),
+        2 => Some(2),
+        3 => Some(3),
+        4 => Some(4),
+        _ => None,
     }
 }
 
@@ -39,10 +26,10 @@ fn payload(lead: u8, width: usize) -> u32
     ensures { result < 256 }
 {
     match width {
-        2 => (lead % 32) as u32,
-        3 => (lead % 16) as u32,
-        4 => (lead % 8) as u32,
-        _ => lead as u32,
+        2 => u32::from(lead % 32),
+        3 => u32::from(lead % 16),
+        4 => u32::from(lead % 8),
+        _ => u32::from(lead),
     }
 }
 
@@ -56,22 +43,17 @@ fn least(width: usize) -> u32 {
     }
 }
 
-// The lead byte's bits with six of each byte after it, or 110000 where one of these is no continuation byte.
+// The lead byte's bits with six of each byte after it, if each is a continuation byte.
 // A value past the last stays past it, so that it needs no further bits.
-fn assembled(bits: u32, after: &[u8]) -> u32
-    requires { bits < 256 }
-{
+fn assembled(bits: u32, after: &[u8]) -> Option<u32> {
     let mut value = bits;
-    let mut i = 0;
-    while i < after.len() {
-        let b = after[i];
+    for b in after {
         if b / 64 != 2 || value > 0x10ffff {
-            return 0x110000;
+            return None;
         }
-        value = value * 64 + (b % 64) as u32;
-        i += 1;
+        value = value * 64 + u32::from(b % 64);
     }
-    value
+    Some(value)
 }
 
 // Whether a value is a scalar value that takes the width: not overlong, no surrogate, not past the last.
@@ -79,190 +61,133 @@ fn is_value(value: u32, width: usize) -> bool {
     value >= least(width) && value / 2048 != 27 && value <= 0x10ffff
 }
 
-// What stands at the start of some bytes.
-fn rule(text: &[u8]) -> Said
-    ensures { result.width ≤ length text.now }
+// The character at the start of some bytes.
+fn rule(text: &[u8]) -> Option<Char>
+    ensures { IfSome result (λ c. (0 < c.width) × (c.width ≤ length text.now)) }
 {
-    if text.len() == 0 {
-        return ill_formed();
+    let lead = *text.first()?;
+    let width = width_asked(lead)?;
+    if text.len() < width {
+        return None;
     }
-    let width = width_asked(text[0]);
-    if width == 0 || text.len() < width {
-        return ill_formed();
-    }
-    let value = assembled(payload(text[0], width), &text[1..width]);
+    let value = assembled(payload(lead, width), &text[1..width])?;
     if is_value(value, width) {
-        return Said { value, width };
+        Some(Char { value, width })
+    } else {
+        None
     }
-    ill_formed()
 }
 
-// The place of the first ill-formed sequence by the rule, or the length.
-fn rule_stops(text: &[u8]) -> usize {
+// The check by the rule.
+fn rule_check(text: &[u8]) -> Result<(), BadAt> {
     let mut at = 0;
+    // The place moves by whole characters, so that no `for` counts it.
     while at < text.len() {
-        let r = rule(&text[at..]);
-        if r.width == 0 {
-            return at;
-        }
-        at += r.width;
+        let Some(c) = rule(&text[at..]) else {
+            return Err(BadAt(at));
+        };
+        at += c.width;
     }
-    at
+    Ok(())
 }
 
-fn decode_agrees(text: &[u8]) -> bool {
-    let r = rule(text);
-    let d = utf8::decode(text, 0);
-    match d {
-        Decoded::Char(c, w) => r.value == c && r.width == w,
-        Decoded::Bad => r.width == 0,
-        Decoded::End => false,
-    }
+// Whether the decoder and the check agree with the rule on some bytes, of which there is at least one.
+fn agrees(text: &[u8]) -> bool {
+    utf8::decode(text, 0) == rule(text).ok_or(NoChar::Bad) && utf8::check(text) == rule_check(text)
 }
 
-fn check_agrees(text: &[u8]) -> bool {
-    let at = rule_stops(text);
-    let k = utf8::check(text);
-    match k {
-        Checked::Valid => at == text.len(),
-        Checked::BadAt(i) => i == at && i < text.len(),
-    }
+// A lead byte and a second byte, completed by 80 80.
+fn completed(pair: u16) -> [u8; 4] {
+    let [lead, second] = pair.to_be_bytes();
+    [lead, second, 0x80, 0x80]
 }
 
-// The lead byte and the second byte of a pair, completed by 80 80.
-fn completed(pair: u32) -> [u8; 4]
-    requires { pair < 65536 }
-{
-    [(pair / 256) as u8, (pair % 256) as u8, 0x80, 0x80]
-}
-
-// Whether the decoder and the check agree with the rule on a pair, completed and cut short.
-fn pair_agrees(pair: u32) -> bool
-    requires { pair < 65536 }
-{
+// Whether all agree on a pair, completed and cut short.
+fn pair_agrees(pair: u16) -> bool {
     let text = completed(pair);
-    let cut = [text[0], text[1]];
-    decode_agrees(&text) && check_agrees(&text) && decode_agrees(&cut) && check_agrees(&cut)
+    agrees(&text) && agrees(&text[..2])
 }
 
-// The first pair that differs, or 65536.
-fn first_other() -> u32 {
-    let mut pair = 0;
-    while pair < 65536 {
-        if !pair_agrees(pair) {
-            return pair;
-        }
-        pair += 1;
-    }
-    pair
+// The first pair that differs.
+fn first_other() -> Option<u16> {
+    (0..=u16::MAX).find(|pair| !pair_agrees(*pair))
 }
 
-// The width of the character at the start of some bytes by the decoder, 0 where they are ill-formed.
-fn width_of(text: &[u8]) -> usize {
-    let d = utf8::decode(text, 0);
-    match d {
-        Decoded::Char(_, w) => w,
-        Decoded::Bad => 0,
-        Decoded::End => 0,
-    }
+// The width of the character at the start of some bytes by the decoder.
+fn width_of(text: &[u8]) -> Option<usize> {
+    utf8::decode(text, 0).ok().map(|c| c.width)
 }
 
-// How many pairs have a character of a width, completed or cut short.
-fn count(width: usize, is_cut: bool) -> u64 {
-    let mut n = 0;
-    let mut pair = 0;
-    while pair < 65536 {
-        if pair_width(pair, is_cut) == width {
-            n += 1;
-        }
-        pair += 1;
-    }
-    n
-}
-
-fn pair_width(pair: u32, is_cut: bool) -> usize
-    requires { pair < 65536 }
+// The width of the character that so many bytes of a completed pair begin with.
+fn pair_width(pair: u16, len: usize) -> Option<usize>
+    requires { len ≤ 4 }
 {
-    let text = completed(pair);
-    if is_cut {
-        let cut = [text[0], text[1]];
-        return width_of(&cut);
-    }
-    width_of(&text)
+    width_of(&completed(pair)[..len])
 }
 
-fn line(rt: &impl Print, name: &[u8], n: u64) -> io::Result<()> {
-    rt.write_all(name)?;
-    println!(rt; "{n}")
+// How many pairs have a character of a width, or none, in so many bytes.
+fn count(width: Option<usize>, len: usize) -> usize
+    requires { len ≤ 4 }
+{
+    (0..=u16::MAX)
+        .filter(|pair| pair_width(*pair, len) == width)
+        .count()
 }
 
-fn differs(rt: &impl Print, pair: u32) -> io::Result<()> {
-    let lead = pair / 256;
-    let second = pair % 256;
+fn differs(rt: &impl Print, pair: u16) -> io::Result<()> {
+    let [lead, second] = pair.to_be_bytes();
     println!(rt; "differs at {lead:02x} {second:02x}")
 }
 
 fn pairs(rt: &impl Print) -> io::Result<()> {
-    let pair = first_other();
-    if pair < 65536 {
+    if let Some(pair) = first_other() {
         return differs(rt, pair);
     }
-    line(rt, b"pairs ", pair as u64)?;
-    line(rt, b"1 byte ", count(1, false))?;
-    line(rt, b"2 bytes ", count(2, false))?;
-    line(rt, b"3 bytes ", count(3, false))?;
-    line(rt, b"4 bytes ", count(4, false))?;
-    line(rt, b"ill-formed ", count(0, false))?;
-    line(rt, b"cut short, 1 byte ", count(1, true))?;
-    line(rt, b"cut short, 2 bytes ", count(2, true))?;
-    line(rt, b"cut short, ill-formed ", count(0, true))
+    println!(rt; "pairs {}", (0..=u16::MAX).count())?;
+    println!(rt; "1 byte {}", count(Some(1), 4))?;
+    println!(rt; "2 bytes {}", count(Some(2), 4))?;
+    println!(rt; "3 bytes {}", count(Some(3), 4))?;
+    println!(rt; "4 bytes {}", count(Some(4), 4))?;
+    println!(rt; "ill-formed {}", count(None, 4))?;
+    println!(rt; "cut short, 1 byte {}", count(Some(1), 2))?;
+    println!(rt; "cut short, 2 bytes {}", count(Some(2), 2))?;
+    println!(rt; "cut short, ill-formed {}", count(None, 2))
 }
 
-fn is_bad(text: &[u8], at: usize) -> bool {
-    let d = utf8::decode(text, at);
-    match d {
-        Decoded::Char(_, _) => false,
-        Decoded::Bad => true,
-        Decoded::End => false,
-    }
-}
-
-// The end of the line of an edge that the check passes. The decoder must find one character there, or nothing.
-fn passes(rt: &impl Print, text: &[u8]) -> io::Result<()> {
-    if width_of(text) == text.len() {
-        rt.write_all(b" valid\n")
+// The line of an edge that the check passes. The decoder must find one character there, or nothing.
+fn passes(rt: &impl Print, name: &str, text: &[u8]) -> io::Result<()> {
+    if width_of(text).unwrap_or(0) == text.len() {
+        println!(rt; "{name} valid")
     } else {
-        rt.write_all(b" differs\n")
+        println!(rt; "{name} differs")
     }
 }
 
-// The end of the line of an edge that is refused at a place. The decoder must refuse it there.
-fn refuses(rt: &impl Print, text: &[u8], at: usize) -> io::Result<()> {
-    if is_bad(text, at) {
-        line(rt, b" bad at ", at as u64)
+// The line of an edge that is refused at a place. The decoder must refuse it there.
+fn refuses(rt: &impl Print, name: &str, text: &[u8], at: usize) -> io::Result<()> {
+    if utf8::decode(text, at) == Err(NoChar::Bad) {
+        println!(rt; "{name} bad at {at}")
     } else {
-        rt.write_all(b" differs\n")
+        println!(rt; "{name} differs")
     }
 }
 
-fn edge(rt: &impl Print, name: &[u8], text: &[u8]) -> io::Result<()> {
-    rt.write_all(name)?;
-    let k = utf8::check(text);
-    match k {
-        Checked::Valid => passes(rt, text),
-        Checked::BadAt(i) => refuses(rt, text, i),
+fn edge(rt: &impl Print, name: &str, text: &[u8]) -> io::Result<()> {
+    match utf8::check(text) {
+        Ok(()) => passes(rt, name, text),
+        Err(BadAt(at)) => refuses(rt, name, text, at),
     }
 }
 
 fn main(rt: HostRuntime) -> io::Result<()> {
-    edge(&rt, b"F4 8F BF BF", b"\xf4\x8f\xbf\xbf")?;
-    edge(&rt, b"F4 90 80 80", b"\xf4\x90\x80\x80")?;
-    edge(&rt, b"C2 80", b"\xc2\x80")?;
-    edge(&rt, b"C0 80", b"\xc0\x80")?;
-    edge(&rt, b"ED 9F BF", b"\xed\x9f\xbf")?;
-    edge(&rt, b"ED A0 80", b"\xed\xa0\x80")?;
-    edge(&rt, b"E2 82", b"\xe2\x82")?;
-    edge(&rt, b"61 E2 82 AC FF", b"a\xe2\x82\xac\xff")?;
-    edge(&rt, b"empty", b"")?;
+    edge(&rt, "F4 8F BF BF", b"\xf4\x8f\xbf\xbf")?;
+    edge(&rt, "F4 90 80 80", b"\xf4\x90\x80\x80")?;
+    edge(&rt, "C2 80", b"\xc2\x80")?;
+    edge(&rt, "C0 80", b"\xc0\x80")?;
+    edge(&rt, "ED 9F BF", b"\xed\x9f\xbf")?;
+    edge(&rt, "ED A0 80", b"\xed\xa0\x80")?;
+    edge(&rt, "E2 82", b"\xe2\x82")?;
+    edge(&rt, "61 E2 82 AC FF", b"a\xe2\x82\xac\xff")?;
+    edge(&rt, "empty", b"")?;
     pairs(&rt)
 }

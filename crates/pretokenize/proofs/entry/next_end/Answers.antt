@@ -1,20 +1,13 @@
 -- `pretokenize::entry::next_end` meets its contract: a fill with room for one end says what next end says.
-use mathlib.Core.Path.{sym, ◌∙◌, ap}
-use Rattle.pretokenize.specs.Entry.{filled}
+use Rattle.pretokenize.proofs.Checks.{handed_on}
 use Rattle.pretokenize.proofs.One.{one_ended, one_found, one_refused}
 use Rattle.pretokenize.proofs.entry.next_end.Goals as goal
 
-pub returns-then-next-start : goal.returns-then-next-start
-returns-then-next-start c =
-    let a = c.args in
-    one_ended a.o a.text.now a.start (sym (ap (filled a.start) c.in-Ends.is) ∙ c.fill-f.ensures.0) c.if-next-start.true
+pub returns-in_err-f : goal.returns-in_err-f
+returns-in_err-f c = rw (handed_on _ c.from_residual.ensures.1) (one_refused c.args.o c.args.text.now c.args.start c.in_err-f.ensures.0)
 
-pub returns-in-Refused : goal.returns-in-Refused
-returns-in-Refused c =
-    let a = c.args in
-    one_refused a.o a.text.now a.start (sym (ap (filled a.start) c.in-Refused.is) ∙ c.fill-f.ensures.0)
+pub returns-then-f-start : goal.returns-then-f-start
+returns-then-f-start c = one_ended c.args.o c.args.text.now c.args.start c.in_ok-f.ensures.0 c.if-f-start.true
 
-pub returns-else-next-start : goal.returns-else-next-start
-returns-else-next-start c =
-    let a = c.args in
-    one_found a.o a.text.now a.start (sym (ap (filled a.start) c.in-Ends.is) ∙ c.fill-f.ensures.0) c.if-next-start.false
+pub returns : goal.returns
+returns c = one_found c.args.o c.args.text.now c.args.start c.in_ok-f.ensures.0 c.if-f-start.false

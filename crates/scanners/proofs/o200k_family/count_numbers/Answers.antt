@@ -2,19 +2,21 @@
 use mathlib.Core.Path.{sym, ◌∙◌}
 use native.Mathlib.Omega.{arith}
 use Rattle.pattern.proofs.Step.{number}
-use Rattle.scanners.proofs.Ended.{goes, stops_count}
+use Rattle.scanners.proofs.Ended.{Went, goes, stops_count}
 use Rattle.scanners.proofs.o200k_family.count_numbers.Goals as goal
+use Rattle.scanners.proofs.o200k_family.count_numbers.Goals.{In-Some}
 
-pub loop-e-init : goal.loop-e-init
-loop-e-init c = (c.requires.whole, omega arith, omega arith)
+-- past a character of the run
+past : (c : In-Some) → Went number c.loop-e.at.0.now c.loop-e.at.1.0 c.in-Some.e
+past c = goes number _ _ c.loop-e.invariant.0 (sym c.number_end.ensures ∙ c.in-Some.is)
 
 pub loop-e-smaller : goal.loop-e-smaller
-loop-e-smaller c = let g = goes number _ _ c.loop-e.invariant.0 (sym c.number_end-d.ensures ∙ c.in-At.is) in omega (arith, g.past, g.whole)
+loop-e-smaller c = let g = past (goal.at.loop-e-smaller c).In-Some in omega (arith, g.past, g.whole)
 
 pub loop-e-preserved : goal.loop-e-preserved
-loop-e-preserved c = let g = goes number _ _ c.loop-e.invariant.0 (sym c.number_end-d.ensures ∙ c.in-At.is) in (g.whole, omega (arith, g.count, c.loop-e.invariant.1), omega (arith, g.past))
+loop-e-preserved c = let g = past (goal.at.loop-e-preserved c).In-Some in (g.whole, omega (arith, g.count, c.loop-e.invariant.1), omega (arith, g.past), c.loop-e.invariant.3)
 
-pub returns-in-No : goal.returns-in-No
-returns-in-No c =
+pub returns : goal.returns
+returns c =
     let l = c.loop-e in
-    omega (arith, l.invariant.1, stops_count number _ _ l.invariant.0 (sym c.number_end-d.ensures ∙ c.in-No.is))
+    omega (arith, l.invariant.1, stops_count number _ _ l.invariant.0 (sym c.number_end.ensures ∙ c.in_default.is))

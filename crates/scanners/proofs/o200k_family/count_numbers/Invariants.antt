@@ -8,7 +8,10 @@ use Rattle.scanners.specs.Place.{Whole}
 use Rattle.scanners.proofs.o200k_family.count_numbers.Given as goal
 
 abbrev pub invariant-loop-e : goal.invariant-loop-e
-invariant-loop-e l = Whole l.bytes l.p × (l.n + run number (chars_at l.bytes l.p) ≡ run number (chars_at l.bytes l.initial.p)) × (l.n ≤ l.p)
+invariant-loop-e l =
+    let s = l.at.0.now in
+    let p = l.at.1.0 in
+    Whole s p × (l.n + run number (chars_at s p) ≡ run number (chars_at l.fn.at.bytes.now l.fn.at.pos)) × (l.n ≤ p) × (length s ≡ length l.fn.at.bytes.now)
 
 abbrev pub decreases-loop-e : goal.decreases-loop-e
-decreases-loop-e l = length l.bytes - l.p
+decreases-loop-e l = length l.at.0.now - l.at.1.0

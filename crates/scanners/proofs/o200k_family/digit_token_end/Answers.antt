@@ -1,22 +1,13 @@
 -- `scanners::o200k_family::digit_token_end` meets its contract: by digit mode.
-use mathlib.Core.Path.{◌≡◌, subst, sym}
 use native.Mathlib.Omega.{arith}
-use Rattle.utf8.specs.Utf8.{chars}
-use Rattle.scanners.specs.Scan.{Digits}
-use Rattle.scanners.proofs.Digits.{begun, digits_one, digits_three, digits_high}
+use Rattle.scanners.proofs.Digits.{digits_one, digits_three, digits_high, digits_as}
 use Rattle.scanners.proofs.o200k_family.digit_token_end.Goals as goal
 
-pub returns-then-digits-eq0 : goal.returns-then-digits-eq0
-returns-then-digits-eq0 c =
-    let mode : c.args.digits ≡ 0 = omega (arith, c.if-digits-eq0.true) in
-    subst (λ d. Digits d (chars c.args.bytes.now) c.args.first_end 0) (sym mode) (digits_one _ c.requires.ready.whole c.requires.bytes_value)
+pub returns-in-0 : goal.returns-in-0
+returns-in-0 c = digits_as (digits_one _ c.args.first.whole c.requires) c.in-0.is c.plain.ensures.0 c.plain.ensures.1
 
-pub scan_numbers_max3-requires : goal.scan_numbers_max3-requires
-scan_numbers_max3-requires c = record { lent = c.requires.ready.lent; whole = (begun _ c.requires.ready.whole c.requires.bytes_value).whole }
+pub returns-in-1 : goal.returns-in-1
+returns-in-1 c = let p = c.plain-in-1.ensures in digits_as (digits_three _ c.args.first.whole c.requires c.scan_numbers_max3.ensures) c.in-1.is p.0 p.1
 
-pub returns-then-digits-eq1 : goal.returns-then-digits-eq1
-returns-then-digits-eq1 c =
-    subst (λ d. Digits d (chars c.args.bytes.now) c.scan_numbers_max3.result 0) (sym c.if-digits-eq1.true) (digits_three _ c.requires.ready.whole c.requires.bytes_value c.scan_numbers_max3.ensures)
-
-pub returns : goal.returns
-returns c = digits_high c.args.digits c.if-digits-eq0.false c.if-digits-eq1.false c.right_aligned_digit_end.ensures
+pub returns-in_default : goal.returns-in_default
+returns-in_default c = digits_high c.args.digits (λ q. omega arith) (λ q. omega arith) c.right_aligned_digit_end.ensures

@@ -1,19 +1,18 @@
 -- `scanners::o200k_family::prefixed_start` meets its contract: a letter run, or what the prefix is.
-use mathlib.Core.Path.{◌≡◌, sym, ap, ap₂, ◌∙◌}
+use mathlib.Core.Path.{sym, ap, ap₂, ◌∙◌}
 use Rattle.utf8.specs.Utf8.{pick}
 use Rattle.scanners.specs.Start.{or_start, prefixed_start}
 use Rattle.scanners.specs.declared.o200k_family.Start.TheVariants.{White, Punct}
 use Rattle.scanners.proofs.o200k_family.prefixed_start.Goals as goal
 
-pub returns-then-blank : goal.returns-then-blank
+pub returns-in-Some : goal.returns-in-Some
 unfolding prefixed_start
-returns-then-blank c =
-    let p = c.args.pos in
-    let e : c.letters_or.result ≡ or_start c.letter_run_first-m.result White = c.letters_or.ensures in
-    e ∙ ap₂ or_start c.letter_run_first-m.ensures (ap (λ b. pick b White (Punct p)) (sym c.if-blank.true))
+returns-in-Some c = ap (λ m. or_start m (pick c.args.blank White (Punct c.args.at.pos))) (sym c.in-Some.is ∙ c.letter_run_first.ensures)
 
-pub returns : goal.returns
+pub returns-in-None : goal.returns-in-None
 unfolding prefixed_start
-returns c =
-    let p = c.args.pos in
-    c.letters_or-2.ensures ∙ ap₂ or_start c.letter_run_first-m.ensures (ap (λ b. pick b White (Punct p)) (sym c.if-blank.false))
+returns-in-None c = ap₂ (λ m b. or_start m (pick b White (Punct c.args.at.pos))) (sym c.in-None.is ∙ c.letter_run_first.ensures) (sym c.if-blank.true)
+
+pub returns-in-None-2 : goal.returns-in-None-2
+unfolding prefixed_start
+returns-in-None-2 c = ap₂ (λ m b. or_start m (pick b White (Punct c.args.at.pos))) (sym c.in-None.is ∙ c.letter_run_first.ensures) (sym c.if-blank.false)

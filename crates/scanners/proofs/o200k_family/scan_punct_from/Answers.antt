@@ -1,20 +1,22 @@
 -- `scanners::o200k_family::scan_punct_from` meets its contract: the run is what was passed over and the run from there on.
-use mathlib.Core.Path.{refl, sym, ◌∙◌}
+use mathlib.Core.Path.{sym, ◌∙◌}
 use native.Mathlib.Omega.{arith}
 use Rattle.pattern.proofs.Step.{punct}
-use Rattle.scanners.proofs.Ended.{goes, stops}
+use Rattle.scanners.proofs.Ended.{Went, goes, stops}
 use Rattle.scanners.proofs.o200k_family.scan_punct_from.Goals as goal
+use Rattle.scanners.proofs.o200k_family.scan_punct_from.Goals.{In-Some}
 
-pub loop-q-init : goal.loop-q-init
-loop-q-init c = (c.requires.whole, refl)
+-- past a character of the run
+past : (c : In-Some) → Went punct c.loop-e.at.0.now c.loop-e.at.1.0 c.in-Some.e
+past c = goes punct _ _ c.loop-e.invariant.0 (sym c.kind_end.ensures ∙ c.in-Some.is)
 
-pub loop-q-smaller : goal.loop-q-smaller
-loop-q-smaller c = let g = goes punct _ _ c.loop-q.invariant.0 (sym c.kind_end-e.ensures ∙ c.in-At.is) in omega (arith, g.past, g.whole)
+pub loop-e-smaller : goal.loop-e-smaller
+loop-e-smaller c = let g = past (goal.at.loop-e-smaller c).In-Some in omega (arith, g.past, g.whole)
 
-pub loop-q-preserved : goal.loop-q-preserved
-loop-q-preserved c = let g = goes punct _ _ c.loop-q.invariant.0 (sym c.kind_end-e.ensures ∙ c.in-At.is) in (g.whole, c.loop-q.invariant.1 ∙ g.wide)
+pub loop-e-preserved : goal.loop-e-preserved
+loop-e-preserved c = let g = past (goal.at.loop-e-preserved c).In-Some in (g.whole, c.loop-e.invariant.1 ∙ g.wide)
 
-pub returns-in-No : goal.returns-in-No
-returns-in-No c =
-    let l = c.loop-q in
-    omega (arith, l.invariant.1, stops punct _ _ l.invariant.0 (sym c.kind_end-e.ensures ∙ c.in-No.is))
+pub returns : goal.returns
+returns c =
+    let l = c.loop-e in
+    omega (arith, l.invariant.1, stops punct _ _ l.invariant.0 (sym c.kind_end.ensures ∙ c.in_default.is))

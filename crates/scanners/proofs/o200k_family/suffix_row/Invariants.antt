@@ -1,11 +1,7 @@
-use Prim.Native.Nat.{◌-◌, ◌%◌, ◌≤◌}
-use mathlib.Core.Path.{◌≡◌}
-use Rattle.scanners.specs.Suffix.{first_row, suffix_rows}
-use Rattle.scanners.proofs.Suffix.{row_from}
+-- The rows that are left say what all of them say.
+use Rattle.std.proofs.Common.{◌≡◌, drop}
+use Rattle.scanners.specs.Suffix.{first_row}
 use Rattle.scanners.proofs.o200k_family.suffix_row.Given as goal
 
-abbrev pub invariant-loop-i : goal.invariant-loop-i
-invariant-loop-i l = (l.i ≤ 24) × (l.i % 3 ≡ 0) × (first_row suffix_rows l.b l.d ≡ row_from suffix_rows l.i l.b l.d)
-
-abbrev pub decreases-loop-i : goal.decreases-loop-i
-decreases-loop-i l = 24 - l.i
+abbrev pub invariant-loop-row : goal.invariant-loop-row
+invariant-loop-row l = first_row l.row-items l.b l.d ≡ first_row (drop l.row-index l.row-items) l.b l.d

@@ -1,9 +1,0 @@
--- The place stays between the start and the length.
-use Rattle.std.proofs.Common.{length, ◌-◌, ◌≤◌}
-use Rattle.replay.proofs.line_end.Given as goal
-
-abbrev pub invariant-loop-i : goal.invariant-loop-i
-invariant-loop-i l = (l.from ≤ l.i) × (l.i ≤ length l.cases)
-
-abbrev pub decreases-loop-i : goal.decreases-loop-i
-decreases-loop-i l = length l.cases - l.i
