@@ -31,7 +31,8 @@ struct Run {
     to: u32,
 }
 
-// What a letter of the list stands for.
+// What a letter of the list stands for. The list is a format of its own: no conversion reads its letters, its six digits in lower case or
+// the place of a count.
 fn class_of_letter(b: u8) -> Option<Result<Class, NoScalar>> {
     match b {
         b'U' => Some(Ok(Class::Upper)),
@@ -46,7 +47,7 @@ fn class_of_letter(b: u8) -> Option<Result<Class, NoScalar>> {
     }
 }
 
-// The number of some hex digits, if it is not past the last value.
+// The number of some hex digits of the list, if it is not past the last value.
 fn number(digits: &[u8]) -> Option<u32>
     ensures { IfSome result (λ n. n ≤ END) }
 {
@@ -105,7 +106,7 @@ fn differs(rt: &impl Print, c: u32) -> io::Result<()> {
     println!(rt; "differs at {c:04x}")
 }
 
-// The place of a run's count.
+// The place of a run's count, in the order of the names.
 fn place(class: Result<Class, NoScalar>) -> usize
     ensures { result < 8 }
 {

@@ -120,7 +120,7 @@ pub fn class_of(c: u32) -> Result<Class, NoScalar>
     }
 }
 
-// By the two ranges of the definition `scalar`.
+// By the two ranges of the definition `scalar`, which wrong programs move one by one.
 fn is_scalar(c: u32) -> bool
     ensures { result ≡ scalar c }
 {

@@ -52,7 +52,7 @@ fn write_ends(rt: &impl Print, ends: &[u32]) -> io::Result<()> {
     Ok(())
 }
 
-// A refusal in words of its own: a `Display` in the library would promise nothing.
+// A refusal in words of its own: a `Display` in the library would promise nothing. The call is told by its parts, which it hands on once.
 fn write_answer(rt: &impl Print, text: &[u8], o: Options, start: usize) -> io::Result<()> {
     // Nothing allocates: a case has at most 256 bytes.
     let mut ends = [0u32; 256];
@@ -75,6 +75,7 @@ fn replay(rt: &impl Print, line: &[u8]) -> io::Result<()> {
     let (start, hex) = number(rest);
     let o = Options {
         contractions: contractions == 1,
+        // A mode that does not fit is refused, as 255 is.
         digits: u8::try_from(digits).unwrap_or(255),
         slash: slash == 1,
     };

@@ -313,7 +313,8 @@ fn scan_case_run(mut at: Place, mut st: CaseState) -> usize
 }
 
 // Where a white-space token ends: `nl` is the end of its last CR or LF, `p` the end of its run, and `last` the start of its last
-// character. That is a place, as in the Rust, and no Option: a character at the token's start, 0, is not given back either.
+// character. That is a place, as in the Rust, and no Option: a character at the token's start, 0, is not given back either. Whether
+// the run is over at the end of the text is a fact that `white_stop` takes.
 fn ws_stop(over: bool, nl: Option<usize>, last: usize, p: usize) -> usize
     ensures { result ≡ white_stop over nl last p }
 {
@@ -423,7 +424,8 @@ fn digit_token_end(first: Place, digits: u8) -> Advance
     }
 }
 
-// Past a prefix that ends at a place: a letter run, or what the prefix is by itself, white space if it is blank.
+// Past a prefix that ends at a place: a letter run, or what the prefix is by itself, white space if it is blank. That is a fact which the
+// definition takes, so that one law serves both.
 fn prefixed_start(at: Place, blank: bool) -> Start
     ensures { result ≡ prefixed_start blank at.entry.pos (rest at.entry) }
 {

@@ -34,6 +34,7 @@ impl<'a> Place<'a> {
     ghost use Rattle.scanners.specs.Place.{StandsWide, Peeks};
 
     // The character outside ASCII at the place, by two tests of its lead byte: checked text needs none of the others that `decode` makes.
+    // The rules have it so, as proved indexing, where the Rust decodes unsafely.
     fn decode_cp(self) -> Char
         requires { 0x80 ≤ get_or self.bytes.now self.pos 0 }
         ensures { decode_at self.entry.bytes.now self.entry.pos ≡ Reads result.value result.width }

@@ -154,7 +154,7 @@ fn pairs(rt: &impl Print) -> io::Result<()> {
     println!(rt; "cut short, ill-formed {}", count(None, 2))
 }
 
-// The line of an edge that the check passes. The decoder must find one character there, or nothing.
+// The line of an edge that the check passes. The decoder must find one character there, or nothing, of the width 0 that the empty text has.
 fn passes(rt: &impl Print, name: &str, text: &[u8]) -> io::Result<()> {
     if width_of(text).unwrap_or(0) == text.len() {
         println!(rt; "{name} valid")

@@ -3,7 +3,7 @@
 //!     cargo run --release --offline --bin bench [-- [--quick] [WORD]]
 //!
 //! --quick takes fewer and shorter rounds; with a word, only the inputs with it in their name are measured.
-//! `fill` is taken whole, with its check of the text and, where it makes one, its class table. What a ratio compares takes turns, round
+//! `fill` is taken whole, with its check of the text. What a ratio compares takes turns, round
 //! by round, and every figure is a median.
 
 mod inputs;
