@@ -1,6 +1,6 @@
 -- No two answers satisfy the contract of a public function: the contracts are those that the functions are proved against.
 use Rattle.std.proofs.Common.{◌≡◌, ℕ, Bool, sym, refl, ◌∙◌}
-pub use Rattle.utf8.proofs.Unique.{one}
+use Rattle.utf8.proofs.Unique.{one}
 use Rattle.classes.specs.Classes.{Said, gives, says, answer}
 use Rattle.classes.specs.declared.Class.{Class}
 use Rattle.std.specs.Prelude.{Result, Ok, Err}
