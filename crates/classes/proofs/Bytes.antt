@@ -53,7 +53,7 @@ unfolding ranges white_space class_in
 letter_test = tests is_ascii_alphabetic is_letter refl
 
 -- white space is a blank, and 9 to 13
-any_white : (b : ℕ) → b < 256 → (eqb b 32 || within 9 b 13) ≡ ascii_is Whitespace b
+pub any_white : (b : ℕ) → b < 256 → (eqb b 32 || within 9 b 13) ≡ ascii_is Whitespace b
 unfolding ranges white_space class_in
 any_white = tests (λ b. eqb b 32 || within 9 b 13) (same Whitespace) refl
 

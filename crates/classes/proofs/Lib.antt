@@ -1,4 +1,5 @@
 pub mod Disjoint
 pub mod Scan
 pub mod Bytes
+pub mod Wrapped
 pub mod Unique

@@ -1,5 +1,6 @@
 pub mod Decimal
 pub mod Adding
+pub mod Front
 pub mod Lines
 pub mod Listed
 pub mod Unique
