@@ -31,8 +31,8 @@ struct Run {
     to: u32,
 }
 
-// What a letter of the list stands for. The list is a format of its own: no conversion reads its letters, its six digits in lower case or
-// the place of a count.
+// What a letter of the list stands for. The list is a format of its own: no conversion reads its letters or its six digits in lower case, and
+// what has no class has a count too.
 fn class_of_letter(b: u8) -> Option<Result<Class, NoScalar>> {
     match b {
         b'U' => Some(Ok(Class::Upper)),
@@ -81,7 +81,7 @@ fn run_of(line: &[u8], from: u32) -> Option<Run>
 }
 
 // The first value of a run whose class is not the run's. The entry point is asked of the first value, and of each that has no class. It stands
-// apart, since as a part of `main` its loop over the rows takes two thirds as much time again.
+// apart: as a part of `main` its loop over the rows lies where it takes two thirds as much time again.
 #[inline(never)]
 fn first_other(run: Run, from: u32) -> Option<u32> {
     if classes::class_of(from) != run.class {
